@@ -1,0 +1,7 @@
+pub mod Answering
+pub mod Counting
+pub mod Division
+pub mod GreatestLaw
+pub mod Ranking
+pub mod RunningLaw
+pub mod SharingLaws

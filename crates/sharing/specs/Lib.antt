@@ -1,0 +1,4 @@
+pub mod Greatest
+pub mod Laws
+pub mod Running
+pub mod Sharing
