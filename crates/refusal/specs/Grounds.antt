@@ -1,4 +1,5 @@
 -- The grounds for saying no, by their numbers.
+use mathlib.Core.Path.{_≡_}
 use mathlib.Core.Bool.{cond}
 use mathlib.Core.List.{List, [], _∷_}
 use Prim.Native.Nat.{ℕ}
@@ -50,3 +51,7 @@ first-numbered n (g ∷ gs) = cond (eqb n (ground-number g)) (Some g) (first-num
 -- the ground with this number, if there is one
 abbrev pub ground-numbered : ℕ → Option Ground
 ground-numbered n = first-numbered n all-grounds
+
+-- The number of each ground names that ground.
+abbrev pub Numbers-name-grounds : Type 0
+Numbers-name-grounds = (g : Ground) → ground-numbered (ground-number g) ≡ Some g

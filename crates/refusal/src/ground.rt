@@ -1,7 +1,6 @@
 // The grounds for saying no, each with its number.
 ghost use mathlib.Core.Path.{_≡_};
-ghost use Rattle.std.specs.declared.option.Option.the-variants.{Some};
-ghost use Rattle.refusal.specs.Grounds.{ground-number, ground-numbered};
+ghost use Rattle.refusal.specs.Grounds.{Numbers-name-grounds, ground-number, ground-numbered};
 use std::fmt;
 
 // A call tells the first ground, in the order of these numbers, that stands against it.
@@ -38,8 +37,7 @@ pub enum Ground {
 impl Ground {
     // The number by which the ground is told.
     pub fn number(self) -> u64
-        ensures told { λ r. ⌜ r ≡ ground-number self ⌝ }
-        ensures back { λ r. ⌜ ground-numbered r ≡ Some self ⌝ }
+        ensures { λ r. ⌜ r ≡ ground-number self ⌝ }
     {
         self as u64
     }
@@ -132,3 +130,8 @@ pub impl fmt::Display for Ground as GroundDisplay {
         write!(f, "{sentence}")
     }
 }
+
+// The number of each ground names that ground and no other.
+pub fn numbers_name_grounds()
+    ensures { λ _. ⌜ Numbers-name-grounds ⌝ }
+{}
