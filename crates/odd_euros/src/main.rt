@@ -1,16 +1,16 @@
 // Shows where the odd euros fall: each line of standard input, `amount weight weight ..`, shared by both rules.
-mod share_out;
 mod show;
 
 use number_lines::LineFaultDisplay;
 use number_lines::read_numbers;
+use show::MOST_WEIGHTS;
 use show::show_line;
 use std::io;
 use std::io::BufRead;
 use std::io::BufReader;
 
-// An amount and up to 64 weights.
-const MOST_NUMBERS: usize = 65;
+// An amount and its weights.
+const MOST_NUMBERS: usize = 1 + MOST_WEIGHTS;
 
 // What became of the lines so far.
 #[derive(Clone, Copy)]

@@ -2,16 +2,17 @@
 ghost use mathlib.Core.Path.{_≡_};
 ghost use Prim.Native.Nat.{_*_};
 ghost use lib.Dec.{ltb};
-use crate::share_out::Unshared;
-use crate::share_out::UnsharedFromRefusal;
-use crate::share_out::share_out;
 use refusal::RefusalDisplay;
 use sharing::GreatestRemainder;
 use sharing::GreatestRemainderSharing;
 use sharing::Running;
 use sharing::RunningSharing;
 use sharing::SharingRule;
+use sharing::share_out;
 use std::io;
+
+// The most weights that a line may have.
+pub const MOST_WEIGHTS: usize = 64;
 
 // Shows the amount shared by both rules, and tells whether at least one of them shared it.
 pub fn show_line(rt: &LibcRuntime, amount: u64, weights: &[u64]) -> io::Result<bool> {
@@ -37,18 +38,14 @@ fn show_rule<R: SharingRule>(
     amount: u64,
     weights: &[u64],
 ) -> io::Result<bool> {
-    match share_out(rt.alloc(), rule, amount, weights) {
+    match share_out::<R, MOST_WEIGHTS>(rule, amount, weights) {
         Ok(shares) => {
             println!(rt, "  {name}")?;
             show_shares(rt, amount, weights, &shares)?;
             Ok(true)
         }
-        Err(Unshared::Refused(refusal)) => {
+        Err(refusal) => {
             println!(rt, "  {name}: {refusal}")?;
-            Ok(false)
-        }
-        Err(Unshared::NoMemory) => {
-            println!(rt, "  {name}: there is no memory left")?;
             Ok(false)
         }
     }

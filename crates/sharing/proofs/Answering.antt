@@ -1,13 +1,14 @@
 -- What an answer of a rule says of what it was asked.
 use mathlib.Core.Path.{_≡_}
 use mathlib.Core.List.{List}
-use Prim.Native.Nat.{ℕ, _<_}
+use Prim.Native.Nat.{ℕ, _<_, _≤_}
 use native.Mathlib.Omega.{arith}
 use lib.ListN.{length}
 use Rattle.std.specs.shelf.Lists.{sum}
 use Rattle.std.specs.declared.result.Result.the-variants.{Ok}
 use Rattle.std.proofs.shelf.Ways.{tells}
-use Rattle.sharing.specs.Sharing.{Meaning, Sharable, share-answer}
+use Rattle.sharing.specs.Sharing.{Meaning, Sharable, all-shares, share-answer}
+use Rattle.sharing.specs.ShareOut.{in-places, share-out-answer}
 
 -- A rule tells a share just where amount and list are sharable and the position is in the list.
 module _ (longest amount : ℕ) (ws : List ℕ) (i : ℕ) where
@@ -38,3 +39,8 @@ admits longest amount ws i total e =
       whole = share-from-ok longest amount ws i share total e;
       within = within-from-ok longest amount ws i share total e;
     }
+
+-- All shares are told just where amount and list are sharable and there are places enough.
+module _ (places longest amount : ℕ) (ws : List ℕ) (share : Meaning) where
+  pub shared-out-from-sharable : Sharable longest amount ws → 0 < length ws → length ws ≤ places → Ok (in-places places (all-shares share amount ws)) ≡ share-out-answer places longest share amount ws
+  shared-out-from-sharable s some room = grind (arith, tells)

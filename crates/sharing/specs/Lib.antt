@@ -1,4 +1,5 @@
 pub mod Greatest
 pub mod Laws
 pub mod Running
+pub mod ShareOut
 pub mod Sharing

@@ -1,9 +1,11 @@
 // Sharing rules: an amount divided over a list of weights in whole euros, told share by share.
+mod all_shares;
 mod greatest_rule;
 mod laws;
 mod rule;
 mod running_rule;
 
+pub use all_shares::share_out;
 pub use greatest_rule::GreatestRemainder;
 pub use greatest_rule::GreatestRemainderSharing;
 pub use laws::sharing_laws_hold;
