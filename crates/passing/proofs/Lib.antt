@@ -1,0 +1,5 @@
+pub mod Flows
+pub mod Parts
+pub mod Places
+pub mod ThreeEuros
+pub mod Passes
