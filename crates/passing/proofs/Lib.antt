@@ -1,4 +1,3 @@
-pub mod Flows
 pub mod Parts
 pub mod Places
 pub mod ThreeEuros

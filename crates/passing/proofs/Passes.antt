@@ -23,9 +23,10 @@ use Rattle.sharing.proofs.SharingLaws.{no-weight-no-share, no-share-above-the-a
 use Rattle.refusal.specs.declared.refusal.Refusal.{Refusal}
 use Rattle.passing.specs.declared.pass.Column.{Column}
 use Rattle.passing.specs.declared.pass.Pass.{Pass}
-use Rattle.passing.specs.Passing.{Passable, above, column, kw-part, largest-flow, most-takers, mwh-part, nothing-to-go-by, of-part, out-of-bounds, pass-answer, received, split, too-many-takers, worked-out}
+use Rattle.sharing.specs.Limits.{above}
+use Rattle.passing.specs.Passing.{Passable, column, kw-part, largest-flow, most-takers, mwh-part, nothing-to-go-by, of-part, out-of-bounds, pass-answer, received, split, too-many-takers, worked-out}
 use Rattle.passing.specs.Proportion.{Within-three-euros, all-of, denominator, numerator}
-use Rattle.passing.proofs.Flows.{sum-bounded}
+use Rattle.sharing.proofs.Above.{sum-bounded}
 use Rattle.passing.proofs.Parts.{part-of-none, part-of-some}
 use Rattle.passing.proofs.Places.{added-in-places, placed-bounded}
 use Rattle.passing.proofs.ThreeEuros.{three-euros}

@@ -12,6 +12,7 @@ use Rattle.std.specs.declared.result.Result.the-variants.{Ok, Err}
 use Rattle.refusal.specs.declared.ground.Ground.the-variants.{OutOfBounds, ListTooLong, NoWeight}
 use Rattle.refusal.specs.declared.refusal.Refusal.{Refusal}
 use Rattle.refusal.specs.Refusals.{refuse}
+use Rattle.sharing.specs.Limits.{above}
 use Rattle.sharing.specs.Sharing.{Meaning, largest-amount}
 use Rattle.sharing.specs.ShareOut.{in-places}
 use Rattle.passing.specs.declared.pass.Column.{Column}
@@ -45,11 +46,6 @@ abbrev pub received : Meaning → ℕ → ℕ → List ℕ → List ℕ → ℕ 
 received share amount permille kws mwhs taker =
     of-part share permille (kw-part share amount permille) kws taker
     + of-part share (1000 - permille) (mwh-part share amount permille) mwhs taker
-
--- some number of the list is above the limit
-abbrev pub above : ℕ → List ℕ → Bool
-above limit [] = false
-above limit (w ∷ ws) = ltb limit w || above limit ws
 
 -- A number is out of bounds, the lists differ in length, or there is no taker.
 abbrev pub out-of-bounds : ℕ → ℕ → List ℕ → List ℕ → Bool

@@ -2,8 +2,9 @@
 ghost use mathlib.Core.Path.{_≡_};
 ghost use lib.Dec.{eqb};
 ghost use Rattle.std.specs.shelf.Lists.{sum};
-ghost use Rattle.passing.specs.Passing.{above, nothing-to-go-by, out-of-bounds};
+ghost use Rattle.passing.specs.Passing.{nothing-to-go-by, out-of-bounds};
 use sharing::LARGEST_AMOUNT;
+use sharing::any_above;
 
 // The largest kW and the largest MWh of one taker.
 const LARGEST_FLOW: u64 = 30_000_000;
@@ -31,16 +32,4 @@ fn are_all_zero(weights: &[u64]) -> bool
     ensures { λ r. ⌜ r ≡ eqb (sum (now (weights .entry))) 0 ⌝ }
 {
     !any_above(0, weights)
-}
-
-// Whether some number is above the limit.
-fn any_above(limit: u64, numbers: &[u64]) -> bool
-    ensures { λ r. ⌜ r ≡ above limit (now (numbers .entry)) ⌝ }
-{
-    for number in numbers {
-        if *number > limit {
-            return true;
-        }
-    }
-    false
 }

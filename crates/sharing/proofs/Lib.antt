@@ -1,3 +1,4 @@
+pub mod Above
 pub mod Answering
 pub mod Counting
 pub mod Division

@@ -2,6 +2,7 @@
 mod all_shares;
 mod greatest_rule;
 mod laws;
+mod limits;
 mod rule;
 mod running_rule;
 
@@ -9,6 +10,7 @@ pub use all_shares::share_out;
 pub use greatest_rule::GreatestRemainder;
 pub use greatest_rule::GreatestRemainderSharing;
 pub use laws::sharing_laws_hold;
+pub use limits::any_above;
 pub use rule::LARGEST_AMOUNT;
 pub use rule::LARGEST_TOTAL;
 pub use rule::SharingRule;

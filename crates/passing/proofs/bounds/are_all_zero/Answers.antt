@@ -1,5 +1,4 @@
-use borrow.Author.Needs.{needs}
-use Rattle.passing.proofs.Flows.{sum-is-zero}
+use Rattle.sharing.proofs.Above.{sum-is-zero}
 use Rattle.passing.proofs.bounds.are_all_zero.Needs as need
 
 pub returns : need.returns

@@ -1,4 +1,4 @@
--- Lists of kW or MWh and the limits on them.
+-- What a limit on the numbers of a list says of their sum.
 use mathlib.Core.Path.{_≡_, refl, sym, ap, _∙_}
 use mathlib.Core.Bool.{Bool, true, false, not, _||_}
 use mathlib.Core.List.{List, [], _∷_}
@@ -14,7 +14,7 @@ use Rattle.std.proofs.shelf.Lists.{at-drop-more, at-drop-all}
 use Rattle.std.proofs.shelf.Sums.{sumBy-cons}
 use Rattle.std.proofs.shelf.Tests.{cases-bool, or-parts, or-cases, ltb-true, ltb-false, lt-ltb, le-ltb}
 use Rattle.std.proofs.shelf.Ways.{tells}
-use Rattle.passing.specs.Passing.{above}
+use Rattle.sharing.specs.Limits.{above}
 
 -- one step of the search, over what is left of the list
 pub above-here : (limit : ℕ) (xs : List ℕ) (i : ℕ) → i < length xs → limit < getD xs i 0 → above limit (drop i xs) ≡ true

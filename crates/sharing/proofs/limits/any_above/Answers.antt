@@ -1,9 +1,9 @@
 use mathlib.Core.Path.{sym, _∙_}
 use native.Mathlib.Omega.{arith}
 use Rattle.std.proofs.shelf.Lists.{at-drop-all}
-use Rattle.passing.specs.Passing.{above}
-use Rattle.passing.proofs.Flows.{above-here, above-later}
-use Rattle.passing.proofs.bounds.any_above.Needs as need
+use Rattle.sharing.specs.Limits.{above}
+use Rattle.sharing.proofs.Above.{above-here, above-later}
+use Rattle.sharing.proofs.limits.any_above.Needs as need
 
 pub returns-then-number-limit : need.returns-then-number-limit
 returns-then-number-limit c =

@@ -1,0 +1,3 @@
+pub mod FixingLaws
+pub mod MeterLaws
+pub mod MonthLaws

@@ -1,0 +1,4 @@
+pub mod Charges
+pub mod Fixings
+pub mod Metering
+pub mod Months
