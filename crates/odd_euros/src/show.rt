@@ -2,6 +2,7 @@
 ghost use mathlib.Core.Path.{_≡_};
 ghost use Prim.Native.Nat.{_*_};
 ghost use lib.Dec.{ltb};
+use number_lines::Outcome;
 use refusal::RefusalDisplay;
 use sharing::GreatestRemainder;
 use sharing::GreatestRemainderSharing;
@@ -14,8 +15,8 @@ use std::io;
 // The most weights that a line may have.
 pub const MOST_WEIGHTS: usize = 64;
 
-// Shows the amount shared by both rules, and tells whether at least one of them shared it.
-pub fn show_line(rt: &LibcRuntime, amount: u64, weights: &[u64]) -> io::Result<bool> {
+// Shows the amount shared by both rules. The line is answered if at least one of them shared it.
+pub fn show_line(rt: &LibcRuntime, amount: u64, weights: &[u64]) -> io::Result<Outcome> {
     let count = weights.len();
     println!(rt, "{amount} euros over {count} weights")?;
     let running = show_rule(rt, "running rule", &Running, amount, weights)?;
@@ -27,7 +28,11 @@ pub fn show_line(rt: &LibcRuntime, amount: u64, weights: &[u64]) -> io::Result<b
         weights,
     )?;
     println!(rt)?;
-    Ok(running || greatest)
+    if running || greatest {
+        Ok(Outcome::Answered)
+    } else {
+        Ok(Outcome::Refused)
+    }
 }
 
 // Shows the amount shared by one rule, and tells whether it was shared.

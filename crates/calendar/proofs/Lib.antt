@@ -1,0 +1,3 @@
+mod Dates
+mod SplitDays
+mod TermAnswers

@@ -1,0 +1,4 @@
+mod EditionLaws
+mod Entering
+mod Lookups
+mod WholeRows
