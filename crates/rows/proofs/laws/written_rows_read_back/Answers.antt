@@ -1,0 +1,48 @@
+use mathlib.Core.Path.{_≡_, refl}
+use Prim.Native.Nat.{ℕ}
+use native.Mathlib.Omega.{arith}
+use borrow.Author.Needs.{needs}
+use Rattle.rows.specs.Requests.{row-bytes, numbers}
+use Rattle.rows.proofs.Numbers.{wrote-fit, refused-unfit, front}
+use Rattle.rows.proofs.Requested.{read-written, length-row-le}
+use Rattle.rows.proofs.laws.written_rows_read_back.Needs as need
+
+pub returns-in-rest : need.returns-in-rest
+returns-in-rest c =
+    let value = c .args .request in
+    record {
+      law = read-written;
+      back = λ fit. absurd (refused-unfit (numbers value) (row-bytes value) 62 (c .in-rest .field-0) (omega arith) fit (c .in-rest .ensures tt .answer));
+      unfit = λ _. refl;
+    }
+
+pub part-read-row-end : need.part-read-row-end
+part-read-row-end c =
+    let value = c .args .request in
+    let h = length-row-le value in
+    let e = wrote-fit (numbers value) (row-bytes value) 62 (c .in-Ok .size) (c .in-Ok .ensures tt .answer) .1 in
+    search needs
+
+pub returns-in-Ok-read-row : need.returns-in-Ok-read-row
+returns-in-Ok-read-row c =
+    let value = c .args .request in
+    let wrote = c .in-Ok .ensures tt in
+    let fine = wrote-fit (numbers value) (row-bytes value) 62 (c .in-Ok .size) (wrote .answer) in
+    record {
+      law = read-written;
+      back = λ fit. let e = c .in-Ok-read-row .ensures tt .exactly .its-row value fit (front (row-bytes value) _ _ _ (fine .1) (wrote .buffer)) in cc;
+      unfit = λ none. absurd (none (fine .0));
+    }
+
+pub returns-in-Err : need.returns-in-Err
+returns-in-Err c =
+    let value = c .args .request in
+    let wrote = c .in-Ok .ensures tt in
+    let fine = wrote-fit (numbers value) (row-bytes value) 62 (c .in-Ok .size) (wrote .answer) in
+    record {
+      law = read-written;
+      back = λ fit.
+          let e = c .in-Err .ensures tt .exactly .its-row value fit (front (row-bytes value) _ _ _ (fine .1) (wrote .buffer)) in
+          let z : _≡_ {A = ℕ} 0 1 = cc in absurd (omega arith);
+      unfit = λ _. refl;
+    }

@@ -1,0 +1,10 @@
+pub mod Bills
+pub mod Calls
+pub mod Fixes
+pub mod Laws
+pub mod Makings
+pub mod Passes
+pub mod Sound
+pub mod State
+pub mod Steps
+pub mod Systems

@@ -1,0 +1,11 @@
+// The tariff year as plain tables, and the model of what its calls mean (specs/).
+mod laws;
+mod tables;
+
+pub use laws::refusals_change_nothing;
+pub use tables::Cents;
+pub use tables::Contract;
+pub use tables::Coupling;
+pub use tables::Started;
+pub use tables::System;
+pub use tables::Tables;
