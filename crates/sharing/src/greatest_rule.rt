@@ -11,6 +11,7 @@ use crate::rule::admitted;
 use crate::rule::rounded_part;
 use refusal::Refusal;
 
+#[derive(Clone, Copy)]
 pub struct GreatestRemainder;
 
 pub impl SharingRule for GreatestRemainder as GreatestRemainderSharing {

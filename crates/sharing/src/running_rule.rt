@@ -10,6 +10,7 @@ use crate::rule::admitted;
 use crate::rule::rounded_part;
 use refusal::Refusal;
 
+#[derive(Clone, Copy)]
 pub struct Running;
 
 pub impl SharingRule for Running as RunningSharing {

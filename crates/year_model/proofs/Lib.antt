@@ -1,1 +1,9 @@
+pub mod Entries
+pub mod HandingDown
+pub mod Lookups
+pub mod Outcomes
 pub mod Refused
+pub mod SoundCalls
+pub mod SoundPasses
+pub mod SoundSystems
+pub mod SoundTables

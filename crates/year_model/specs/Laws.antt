@@ -1,12 +1,22 @@
 -- What holds of every call.
 use mathlib.Core.Path.{_≡_}
+use mathlib.Core.List.{List}
 use Rattle.std.specs.declared.result.Result.the-variants.{Err}
 use Rattle.refusal.specs.declared.refusal.Refusal.{Refusal}
 use Rattle.year_model.specs.Calls.{Call}
-use Rattle.year_model.specs.Makings.{Makings}
+use Rattle.year_model.specs.Makings.{Lawful, Makings}
+use Rattle.year_model.specs.Sound.{Sound}
 use Rattle.year_model.specs.State.{State}
-use Rattle.year_model.specs.Steps.{after, reply}
+use Rattle.year_model.specs.Steps.{after, reply, state-after}
 
 -- A refused call leaves the state as it was.
 abbrev pub Refusals-change-nothing : Type 0
 Refusals-change-nothing = (m : Makings) (s : State) (c : Call) (refusal : Refusal) → reply m s c ≡ Err refusal → after m s c ≡ s
+
+-- Every call leaves a sound state sound.
+abbrev pub Calls-keep-soundness : Type 0
+Calls-keep-soundness = (m : Makings) → Lawful m → (s : State) → Sound s → (c : Call) → Sound (after m s c)
+
+-- Every list of calls leads to a sound state.
+abbrev pub Every-state-is-sound : Type 0
+Every-state-is-sound = (m : Makings) → Lawful m → (calls : List Call) → Sound (state-after m calls)

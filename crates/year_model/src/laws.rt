@@ -1,7 +1,13 @@
 // What holds of every call.
-ghost use Rattle.year_model.specs.Laws.{Refusals-change-nothing};
+ghost use Rattle.year_model.specs.Laws.{Calls-keep-soundness, Every-state-is-sound, Refusals-change-nothing};
 
 // A refused call leaves the state as it was.
 pub fn refusals_change_nothing()
     ensures { λ _. ⌜ Refusals-change-nothing ⌝ }
+{}
+
+// Every call keeps the year sound, so every list of calls leads to a sound year.
+pub fn calls_keep_the_year_sound()
+    ensures kept { λ _. ⌜ Calls-keep-soundness ⌝ }
+    ensures every_state { λ _. ⌜ Every-state-is-sound ⌝ }
 {}
