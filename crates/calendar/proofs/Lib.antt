@@ -1,3 +1,3 @@
-mod Dates
-mod SplitDays
+pub mod Dates
+pub mod SplitDays
 mod TermAnswers

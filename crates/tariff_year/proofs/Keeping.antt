@@ -1,6 +1,7 @@
 -- A call keeps the year sound, since the model's calls do.
 use mathlib.Core.Path.{_≡_, sym, subst}
 use mathlib.Core.Bool.{true}
+use mathlib.Core.Logic.{∥∥₁-map}
 use Prim.Native.Nat.{ℕ, _≤_}
 use lib.Dec.{leb}
 use Rattle.std.proofs.shelf.Tests.{and-from, le-leb}
@@ -8,10 +9,10 @@ use Rattle.edition.specs.Editions.{Hundred-law, Known, Percent}
 use Rattle.sharing.specs.Sharing.{Meaning, Sharing-law}
 use Rattle.year_model.specs.Calls.{Call}
 use Rattle.year_model.specs.Makings.{Lawful, Makings}
-use Rattle.year_model.specs.Sound.{Couplings-join, Flows-fit, Money-balances, Ranks-rise, Sound, Systems-fit, Tables-fit}
-use Rattle.year_model.specs.State.{State}
+use Rattle.year_model.specs.Sound.{Sound}
+use Rattle.year_model.specs.State.{State, begun}
 use Rattle.year_model.specs.Steps.{after}
-use Rattle.year_model.proofs.SoundCalls.{sound-after}
+use Rattle.year_model.proofs.SoundCalls.{sound-after, sound-begun}
 use Rattle.tariff_year.specs.Years.{makings}
 
 -- what a year is made of is lawful
@@ -24,9 +25,9 @@ lawful calendar book longest share known percent from to twelve sharing hundred 
       hundred = hundred;
     }
 
-module _ (m : Makings) (law : Lawful m) (c : Call) (s t : State) (goes : t ≡ after m s c)
-    (fit : Tables-fit s) (systems : Systems-fit s) (joined : Couplings-join s) (ranked : Ranks-rise s) (flows : Flows-fit s) (money : Money-balances s) where
-  pub stays-sound : Sound t
-  stays-sound =
-      let before : Sound s = record { tables = fit; systems = systems; joined = joined; ranked = ranked; flows = flows; money = money } in
-      subst Sound (sym goes) (sound-after m law s before c)
+pub stays-sound : (m : Makings) → Lawful m → (c : Call) (s t : State) → t ≡ after m s c → ∥ Sound s ∥₁ → ∥ Sound t ∥₁
+stays-sound m law c s t goes sound = ∥∥₁-map sound (λ before. subst Sound (sym goes) (sound-after m law s before c))
+
+-- a year with nothing in it is sound
+pub begins-sound : (t : State) → t ≡ begun → ∥ Sound t ∥₁
+begins-sound t e = ∣ subst Sound (sym e) sound-begun ∣₁

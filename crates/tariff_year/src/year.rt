@@ -1,7 +1,7 @@
 // A tariff year and what it is made of.
 ghost use mathlib.Core.Path.{_≡_};
 ghost use Rattle.std.specs.Vec.{made};
-ghost use Rattle.year_model.specs.Sound.{Couplings-join, Flows-fit, Money-balances, Ranks-rise, Systems-fit, Tables-fit};
+ghost use Rattle.year_model.specs.Sound.{Sound};
 ghost use Rattle.year_model.specs.State.{begun, view};
 ghost use Rattle.tariff_year.specs.Years.{Roomy};
 use calendar::CalendarYear;
@@ -28,12 +28,7 @@ pub struct TariffYear<E: Edition, R: SharingRule> {
     pub(crate) book: u64,
     pub(crate) tables: Tables,
     ghost roomy: { Roomy tables },
-    ghost fit: { Tables-fit (view tables) },
-    ghost systems: { Systems-fit (view tables) },
-    ghost joined: { Couplings-join (view tables) },
-    ghost ranked: { Ranks-rise (view tables) },
-    ghost flows: { Flows-fit (view tables) },
-    ghost money: { Money-balances (view tables) },
+    ghost sound: { ∥ Sound (view tables) ∥₁ },
 }
 
 impl<E: Edition + Drop, R: SharingRule + Drop> TariffYear<E, R> {

@@ -22,6 +22,7 @@ use Rattle.billing.specs.Months.{issued-cents, waived-cents}
 use Rattle.billing.specs.Metering.{line-answer}
 use Rattle.billing.specs.declared.metering.MeteredLine.{MeteredLine}
 use Rattle.billing.specs.declared.metering.Rate.{Rate}
+use Rattle.worked_sums.specs.Runs.{Worked-runs}
 
 -- under the running rule and under the rule of the greatest remainder
 abbrev pub Under-both : (Meaning → Type 0) → Type 0
@@ -72,3 +73,5 @@ pub record Worked-sums : Type 0 where
   -- readings 5,000, 9,321 and 9,400 at tariff 2
   pub kwh-january : line-answer 2 plain 4321 0 ≡ line 86 42
   pub kwh-february : line-answer 2 plain 4400 86 ≡ line 2 0
+  -- runs of calls on a tariff year
+  pub runs : Worked-runs

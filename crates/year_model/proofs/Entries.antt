@@ -21,8 +21,8 @@ pub throughout-set : {X : Type 0} (P : X → Type 0) (xs : List X) (i : ℕ) (y 
 throughout-set P xs i y d each here k h = all-getD P (set xs i y) k d h (all-set P xs i y here (all-from-getD P xs d each))
 
 -- What a change leaves of one element, it leaves of all.
-pub same-after-set : {X : Type 0} (f : X → ℕ) (xs : List X) (i : ℕ) (x y d : X) → i < length xs → getD xs i d ≡ x → f y ≡ f x → (k : ℕ) → f (getD (set xs i y) k d) ≡ f (getD xs k d)
-same-after-set {X} f xs i x y d h was same k =
+pub same-after-set : {X Y : Type 0} (f : X → Y) (xs : List X) (i : ℕ) (x y d : X) → i < length xs → getD xs i d ≡ x → f y ≡ f x → (k : ℕ) → f (getD (set xs i y) k d) ≡ f (getD xs k d)
+same-after-set f xs i x y d h was same k =
     ⊎-elim
     (λ (e : k ≡ i). rw e (ap f (getD-set-same xs i y d h) ∙ same ∙ sym (ap f was)))
     (λ (ne : k ≡ i → ⊥). ap f (getD-set-other xs i k y d ne))

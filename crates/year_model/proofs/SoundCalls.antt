@@ -10,32 +10,41 @@ use Rattle.std.specs.declared.option.Option.{Option}
 use Rattle.std.specs.declared.option.Option.the-variants.{Some, None}
 use Rattle.std.specs.declared.result.Result.{Result}
 use Rattle.std.specs.declared.result.Result.the-variants.{Ok, Err}
-use Rattle.std.proofs.shelf.Tests.{leb-false, ltb-false, or-parts}
+use Rattle.std.proofs.shelf.Tests.{and-parts, both-ways, leb-false, leb-true, ltb-false, not-false, or-parts}
 use Rattle.refusal.specs.declared.refusal.Refusal.{Refusal}
 use Rattle.billing.specs.declared.fixings.Fixing.{Fixing}
 use Rattle.billing.specs.Charges.{charge, largest-charge, largest-fee, largest-kw}
+use Rattle.billing.specs.Fixings.{fixing-answer}
 use Rattle.billing.specs.Metering.{largest-line}
 use Rattle.calendar.specs.Days.{is-day, month-of}
+use Rattle.edition.specs.Editions.{percentages}
 use Rattle.edition.specs.Entered.{is-category}
 use Rattle.sharing.specs.Sharing.{largest-amount}
 use Rattle.passing.specs.Passing.{largest-flow}
 use Rattle.year_model.specs.declared.tables.Contract.{Contract}
 use Rattle.year_model.specs.declared.tables.Started.{Started}
 use Rattle.year_model.specs.declared.tables.System.{System}
-use Rattle.year_model.specs.Bills.{contract-with, contracted, draft-out, issue-with, kwh-line, kwmax-line, most-contracts, start-with, started-draft, tariff-at, tear-with}
-use Rattle.year_model.specs.Calls.{Call, call-contract, call-cost, call-couple, call-fix, call-issue, call-open, call-pass, call-settle, call-start, call-take-back, call-tear, call-use, largest-number, state-of}
+use Rattle.year_model.specs.Bills.{billed, contract-with, contracted, draft-out, issue-with, kwh-line, kwmax-line, most-contracts, new-contract, start-with, started-draft, tariff-at, tear-with, with-draft}
+use Rattle.year_model.specs.Calls.{Call, call-contract, call-cost, call-couple, call-fix, call-issue, call-open, call-pass, call-settle, call-start, call-take-back, call-tear, call-use, largest-number}
 use Rattle.year_model.specs.Fixes.{fix-with, fixed, unfixed-above, with-fixing}
 use Rattle.year_model.specs.Laws.{Calls-keep-soundness, Every-state-is-sound}
-use Rattle.year_model.specs.Makings.{Makings}
+use Rattle.year_model.specs.Makings.{Lawful, Makings}
 use Rattle.year_model.specs.Sound.{Sound}
 use Rattle.year_model.specs.State.{State, begun, is-fixed, rank}
-use Rattle.year_model.specs.Steps.{after, state-after}
+use Rattle.year_model.specs.Steps.{state-after}
 use Rattle.year_model.specs.Systems.{below-count, charged, coupled, coupled-with, is-level, joining-count, most-below, most-couplings, most-systems, opened, standing-at, taken-back, used, with-use}
+use Rattle.year_model.proofs.Drafts.{out-from-draft}
+use Rattle.year_model.proofs.GridPasses.{standing-small}
+use Rattle.year_model.proofs.GridSystems.{entry-fits}
+use Rattle.year_model.proofs.Grids.{grid-of, register-of}
+use Rattle.year_model.proofs.Holdings.{held-billed, held-new, held-started, held-torn}
 use Rattle.year_model.proofs.Lookups.{Entry}
+use Rattle.year_model.proofs.MonthsBilled.{month-of-day}
 use Rattle.year_model.proofs.Outcomes.{Kept, kept-accepted, kept-entry, kept-on-unfixed, kept-refusal, kept-unless, kept-within}
-use Rattle.year_model.proofs.SoundPasses.{sound-passed, sound-settled, standing-small}
-use Rattle.year_model.proofs.SoundSystems.{entry-fits, sound-system}
-use Rattle.year_model.proofs.SoundTables.{sound-contracts, sound-coupled, sound-opened}
+use Rattle.year_model.proofs.Registers.{held-entry}
+use Rattle.year_model.proofs.SoundChanges.{sound-contract, sound-contracted, sound-coupled, sound-opened, sound-system}
+use Rattle.year_model.proofs.SoundPasses.{sound-passed, sound-settled}
+use Rattle.year_model.proofs.TariffsFixed.{entry-tariffs, fixing-within}
 
 -- The state before the first call is sound.
 pub sound-begun : Sound begun
@@ -47,6 +56,16 @@ sound-begun =
       ranked = λ k h. absurd (omega arith);
       flows = λ k h. absurd (omega arith);
       money = (refl, omega arith);
+      tariffs = λ k h. absurd (omega arith);
+      contracts = omega arith;
+      placed = λ k h. absurd (omega arith);
+      months = λ k h. absurd (omega arith);
+      charges = λ k h. absurd (omega arith);
+      meters = λ k h. absurd (omega arith);
+      cents = λ k h. absurd (omega arith);
+      lines = λ k h. absurd (omega arith);
+      drafts = λ k d e. let z : _≡_ {A = ℕ} 0 1 = cc in absurd (omega arith);
+      payable = λ k d e. let z : _≡_ {A = ℕ} 0 1 = cc in absurd (omega arith);
     }
 
 module _ (m : Makings) (s : State) (v : Sound s) where
@@ -83,14 +102,14 @@ module _ (m : Makings) (s : State) (v : Sound s) where
   after-use n kw mwh permille =
       kept-within Sound s v ((n, largest-number) ∷ (kw, largest-flow) ∷ (mwh, largest-flow) ∷ (permille, 1000) ∷ []) _ (λ bounds.
       kept-on-unfixed Sound s v n _ (λ x at _.
-      kept-accepted Sound s v _ _ (sound-system s v n x (with-use x kw mwh permille) (s .net) at refl (omega arith, omega arith, omega arith) refl (v .money .1))))
+      kept-accepted Sound s v _ _ (sound-system s v n x (with-use x kw mwh permille) (s .net) at refl (omega arith, omega arith, omega arith) refl (v .money .1) (λ _. refl) (entry-tariffs s (v .tariffs) n x at))))
 
   after-cost : (n euros : ℕ) → Kept Sound s (charged s n euros)
   after-cost n euros =
       kept-within Sound s v ((n, largest-number) ∷ (euros, largest-amount) ∷ []) _ (λ bounds.
       kept-on-unfixed Sound s v n _ (λ x at _.
       kept-unless Sound s v (ltb largest-amount (s .net + euros)) _ _ (λ fits.
-      kept-accepted Sound s v _ _ (sound-system s v n x (standing-at x (x .standing + euros)) (s .net + euros) at refl (entry-fits s v n x at) (omega arith) (ltb-false largest-amount (s .net + euros) fits)))))
+      kept-accepted Sound s v _ _ (sound-system s v n x (standing-at x (x .standing + euros)) (s .net + euros) at refl (entry-fits s (grid-of s v) n x at) (omega arith) (ltb-false largest-amount (s .net + euros) fits) (λ _. refl) (entry-tariffs s (v .tariffs) n x at)))))
 
   after-take-back : (n euros : ℕ) → Kept Sound s (taken-back s n euros)
   after-take-back n euros =
@@ -98,55 +117,80 @@ module _ (m : Makings) (s : State) (v : Sound s) where
       kept-on-unfixed Sound s v n _ (λ x at _.
       kept-unless Sound s v (ltb (x .standing) euros) _ _ (λ stands.
       let enough = ltb-false (x .standing) euros stands in
-      let within = standing-small s v n x at in
-      kept-accepted Sound s v _ _ (sound-system s v n x (standing-at x (x .standing - euros)) (s .net - euros) at refl (entry-fits s v n x at) (omega arith) (omega (arith, v .money .1))))))
+      let within = standing-small s (grid-of s v) n x at in
+      kept-accepted Sound s v _ _ (sound-system s v n x (standing-at x (x .standing - euros)) (s .net - euros) at refl (entry-fits s (grid-of s v) n x at) (omega arith) (omega (arith, v .money .1)) (λ _. refl) (entry-tariffs s (v .tariffs) n x at)))))
 
-  after-fixing : (n : ℕ) (x : System) → Entry (s .systems) n x → (told : Result Fixing Refusal) → Kept Sound s (fix-with s n x told)
-  after-fixing n x at (Ok f) = kept-accepted Sound s v _ _ (sound-system s v n x (with-fixing x f) (s .net) at refl (entry-fits s v n x at) refl (v .money .1))
-  after-fixing n x at (Err refusal) = kept-refusal Sound s v _
+  after-fixing : (n : ℕ) (x : System) → Entry (s .systems) n x → is-fixed x ≡ false → (volumes : List ℕ) (told : Result Fixing Refusal) → fixing-answer (m .share) (x .landed) (percentages (m .percent) (x .category)) volumes ≡ told
+      → Kept Sound s (fix-with s n x told)
+  after-fixing n x at unfixed volumes (Ok f) e =
+      kept-accepted Sound s v _ _ (sound-system s v n x (with-fixing x f) (s .net) at refl (entry-fits s (grid-of s v) n x at) refl (v .money .1)
+      (λ fixed. absurd (both-ways (is-fixed x) unfixed fixed))
+      (fixing-within (m .share) (x .landed) (percentages (m .percent) (x .category)) volumes f x e))
+  after-fixing n x at unfixed volumes (Err refusal) e = kept-refusal Sound s v refusal
 
   after-fix : (n v₁ v₂ v₃ v₄ : ℕ) → Kept Sound s (fixed m s n v₁ v₂ v₃ v₄)
   after-fix n v₁ v₂ v₃ v₄ =
+      let volumes : List ℕ = v₁ ∷ v₂ ∷ v₃ ∷ v₄ ∷ [] in
       kept-within Sound s v ((n, largest-number) ∷ (v₁, largest-number) ∷ (v₂, largest-number) ∷ (v₃, largest-number) ∷ (v₄, largest-number) ∷ []) _ (λ bounds.
-      kept-on-unfixed Sound s v n _ (λ x at _.
+      kept-on-unfixed Sound s v n _ (λ x at unfixed.
       kept-unless Sound s v (ltb 0 (x .standing) || ltb 0 (unfixed-above s n)) _ _ (λ _.
-      after-fixing n x at _)))
+      after-fixing n x at unfixed volumes (fixing-answer (m .share) (x .landed) (percentages (m .percent) (x .category)) volumes) refl)))
 
-  after-contracting : (n kw fee first last reading : ℕ) (fixing : Option Fixing) → Kept Sound s (contract-with s n kw fee first last reading fixing)
-  after-contracting n kw fee first last reading None = kept-refusal Sound s v _
-  after-contracting n kw fee first last reading (Some f) = kept-unless Sound s v (ltb largest-charge (charge fee kw (tariff-at f 1) (tariff-at f 4))) _ _ (λ _. kept-accepted Sound s v _ _ (sound-contracts s v _))
+  after-contracting : (n kw fee first last reading : ℕ) (x : System) → Entry (s .systems) n x → kw ≤ largest-kw → fee ≤ largest-fee → 1 ≤ month-of first → month-of last ≤ 12 → first ≤ last → reading ≤ largest-number
+      → length (s .contracts) < most-contracts → (fixing : Option Fixing) → x .fixing ≡ fixing → Kept Sound s (contract-with s n kw fee first last reading fixing)
+  after-contracting n kw fee first last reading x at kw-fits fee-fits from to ordered read room None unfixed = kept-refusal Sound s v _
+  after-contracting n kw fee first last reading x at kw-fits fee-fits from to ordered read room (Some f) is =
+      let yearly = charge fee kw (tariff-at f 1) (tariff-at f 4) in
+      kept-unless Sound s v (ltb largest-charge yearly) _ _ (λ small.
+      kept-accepted Sound s v _ _ (sound-contracted s v (new-contract n kw fee first last reading yearly)
+      (held-new s x f n kw fee first last reading yearly at is kw-fits fee-fits from to ordered read (ltb-false largest-charge yearly small))
+      room))
 
   after-contract : (n kw fee first last reading : ℕ) → Kept Sound s (contracted m s n kw fee first last reading)
   after-contract n kw fee first last reading =
       kept-within Sound s v ((n, largest-number) ∷ (kw, largest-kw) ∷ (fee, largest-fee) ∷ []) _ (λ bounds.
-      kept-unless Sound s v (not (is-day (m .calendar) first)) _ _ (λ _.
-      kept-unless Sound s v (not (is-day (m .calendar) last && leb first last)) _ _ (λ _.
-      kept-unless Sound s v (ltb largest-number reading) _ _ (λ _.
+      kept-unless Sound s v (not (is-day (m .calendar) first)) _ _ (λ begins.
+      kept-unless Sound s v (not (is-day (m .calendar) last && leb first last)) _ _ (λ ends.
+      kept-unless Sound s v (ltb largest-number reading) _ _ (λ read.
       kept-entry Sound s v (s .systems) n _ (λ x at.
-      kept-unless Sound s v (leb most-contracts (length (s .contracts))) _ _ (λ _.
-      after-contracting n kw fee first last reading (x .fixing)))))))
+      kept-unless Sound s v (leb most-contracts (length (s .contracts))) _ _ (λ room.
+      let from = month-of-day (m .calendar) first (not-false (is-day (m .calendar) first) begins) in
+      let parts = and-parts (is-day (m .calendar) last) (leb first last) (not-false (is-day (m .calendar) last && leb first last) ends) in
+      let to = month-of-day (m .calendar) last (parts .0) in
+      after-contracting n kw fee first last reading x at (bounds .1 .0) (bounds .1 .1 .0) (from .0) (to .1) (leb-true first last (parts .1)) (ltb-false largest-number reading read)
+      (leb-false most-contracts (length (s .contracts)) room) (x .fixing) refl))))))
 
-  after-starting : (n kwmax reading : ℕ) (k : Contract) (draft : Option Started) → Kept Sound s (start-with m s n kwmax reading k draft)
-  after-starting n kwmax reading k (Some d) = kept-refusal Sound s v _
-  after-starting n kwmax reading k None =
-      kept-unless Sound s v (ltb (month-of (k .last)) (k .month)) _ _ (λ _.
-      kept-unless Sound s v (ltb reading (k .reading)) _ _ (λ _.
-      kept-unless Sound s v (ltb largest-line (kwmax-line s k kwmax) || ltb largest-line (kwh-line s k reading)) _ _ (λ _.
-      kept-accepted Sound s v _ _ (sound-contracts s v _))))
+  after-starting : (n kwmax reading : ℕ) (c : Contract) → Entry (s .contracts) n c → kwmax ≤ largest-kw → reading ≤ largest-number → (draft : Option Started) → Kept Sound s (start-with m s n kwmax reading c draft)
+  after-starting n kwmax reading c at fits read (Some d) = kept-refusal Sound s v _
+  after-starting n kwmax reading c at fits read None =
+      kept-unless Sound s v (ltb (month-of (c .last)) (c .month)) _ _ (λ left.
+      kept-unless Sound s v (ltb reading (c .reading)) _ _ (λ rises.
+      kept-unless Sound s v (ltb largest-line (kwmax-line s c kwmax) || ltb largest-line (kwh-line s c reading)) _ _ (λ pays.
+      let lines = or-parts (ltb largest-line (kwmax-line s c kwmax)) (ltb largest-line (kwh-line s c reading)) pays in
+      let d : Started = record { kwmax = kwmax; reading = reading } in
+      kept-accepted Sound s v _ _ (sound-contract s v n (with-draft c (Some d))
+      (held-started s c (held-entry s (register-of s v) n c at) d fits (ltb-false reading (c .reading) rises) read (ltb-false (month-of (c .last)) (c .month) left)
+      (ltb-false largest-line (kwmax-line s c kwmax) (lines .0))
+      (ltb-false largest-line (kwh-line s c reading) (lines .1)))))))
 
   after-start : (n kwmax reading : ℕ) → Kept Sound s (started-draft m s n kwmax reading)
   after-start n kwmax reading =
       kept-within Sound s v ((n, largest-number) ∷ (kwmax, largest-kw) ∷ (reading, largest-number) ∷ []) _ (λ bounds.
-      kept-entry Sound s v (s .contracts) n _ (λ k at.
-      after-starting n kwmax reading k (k .started)))
+      kept-entry Sound s v (s .contracts) n _ (λ c at.
+      after-starting n kwmax reading c at (bounds .1 .0) (bounds .1 .1 .0) (c .started)))
 
-  after-issuing : (n : ℕ) (out : Option (Contract × Started)) → Kept Sound s (issue-with m s n out)
-  after-issuing n None = kept-refusal Sound s v _
-  after-issuing n (Some out) = kept-accepted Sound s v _ _ (sound-contracts s v _)
+  after-issuing : Lawful m → (book n month : ℕ) (out : Option (Contract × Started)) → draft-out m s book n month ≡ out → Kept Sound s (issue-with m s n out)
+  after-issuing law book n month None e = kept-refusal Sound s v _
+  after-issuing law book n month (Some out) e =
+      let is = out-from-draft m s book n month out e in
+      kept-accepted Sound s v _ _ (sound-contract s v n (billed m s (out .0) (out .1))
+      (held-billed m law s (out .0) (held-entry s (register-of s v) n (out .0) (is .entry)) (out .1) (is .started)))
 
-  after-tearing : (n : ℕ) (out : Option (Contract × Started)) → Kept Sound s (tear-with s n out)
-  after-tearing n None = kept-refusal Sound s v _
-  after-tearing n (Some out) = kept-accepted Sound s v _ _ (sound-contracts s v _)
+  after-tearing : (book n month : ℕ) (out : Option (Contract × Started)) → draft-out m s book n month ≡ out → Kept Sound s (tear-with s n out)
+  after-tearing book n month None e = kept-refusal Sound s v _
+  after-tearing book n month (Some out) e =
+      let is = out-from-draft m s book n month out e in
+      kept-accepted Sound s v _ _ (sound-contract s v n (with-draft (out .0) None) (held-torn s (out .0) (held-entry s (register-of s v) n (out .0) (is .entry))))
 
 -- Every call leaves a sound state sound.
 pub sound-after : Calls-keep-soundness
@@ -160,8 +204,8 @@ sound-after m law s v call-settle = sound-settled m law s v
 sound-after m law s v (call-fix n v₁ v₂ v₃ v₄) = after-fix m s v n v₁ v₂ v₃ v₄ .after
 sound-after m law s v (call-contract n kw fee first last reading) = after-contract m s v n kw fee first last reading .after
 sound-after m law s v (call-start n kwmax reading) = after-start m s v n kwmax reading .after
-sound-after m law s v (call-issue book n month) = after-issuing m s v n (draft-out m s book n month) .after
-sound-after m law s v (call-tear book n month) = after-tearing m s v n (draft-out m s book n month) .after
+sound-after m law s v (call-issue book n month) = after-issuing m s v law book n month (draft-out m s book n month) refl .after
+sound-after m law s v (call-tear book n month) = after-tearing m s v book n month (draft-out m s book n month) refl .after
 
 -- Every state that calls lead to is sound.
 pub sound-state-after : Every-state-is-sound

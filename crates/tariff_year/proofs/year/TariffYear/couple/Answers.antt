@@ -16,5 +16,5 @@ ghost-self g c =
     let m = makings (old .calendar .year) (old .book) longest share known percent in
     let law = lawful (old .calendar .year) (old .book) longest share known percent (old .calendar .from) (old .calendar .to) (g .R·SharingRule·met .twelve) (g .R·SharingRule·met .sharing (old .rule)) (g .E·Edition·met .hundred (old .edition)) in
     let new : Tables = record { systems = old .tables .systems; couplings = c .push-reserved .last .self; contracts = old .tables .contracts; net = old .tables .net } in
-    let sound = stays-sound m law (call-couple (c .args .upper) (c .args .lower) (c .args .kw) (c .args .mwh)) (view (old .tables)) (view new) (search needs) (old .fit) (old .systems) (old .joined) (old .ranked) (old .flows) (old .money) in
-    (search needs, (sound .tables, (sound .systems, (sound .joined, (sound .ranked, (sound .flows, (sound .money, tt)))))))
+    let sound = stays-sound m law (call-couple (c .args .upper) (c .args .lower) (c .args .kw) (c .args .mwh)) (view (old .tables)) (view new) (search needs) (old .sound) in
+    (search needs, (sound, tt))

@@ -27,5 +27,5 @@ ghost-self g c =
     let m = makings (old .calendar .year) (old .book) longest share known percent in
     let law = lawful (old .calendar .year) (old .book) longest share known percent (old .calendar .from) (old .calendar .to) (g .R·SharingRule·met .twelve) (g .R·SharingRule·met .sharing (old .rule)) (g .E·Edition·met .hundred (old .edition)) in
     let later : State = with-system (view (old .tables)) (c .args .system) (with-use (c .in-Some .old) (c .args .kw) (c .args .mwh) (c .args .permille)) in
-    let sound = stays-sound m law (call-use (c .args .system) (c .args .kw) (c .args .mwh) (c .args .permille)) (view (old .tables)) later (search needs) (old .fit) (old .systems) (old .joined) (old .ranked) (old .flows) (old .money) in
-    (search needs, (sound .tables, (sound .systems, (sound .joined, (sound .ranked, (sound .flows, (sound .money, tt)))))))
+    let sound = stays-sound m law (call-use (c .args .system) (c .args .kw) (c .args .mwh) (c .args .permille)) (view (old .tables)) later (search needs) (old .sound) in
+    (search needs, (sound, tt))

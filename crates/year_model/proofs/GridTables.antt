@@ -1,4 +1,4 @@
--- A sound state stays sound where a system, a coupling or contracts are added.
+-- A sound grid stays sound where a system or a coupling is added.
 use mathlib.Core.Path.{_≡_, refl, sym, ap, _∙_}
 use mathlib.Core.Bool.{Bool, true, false, cond}
 use mathlib.Core.List.{List, [], _∷_, _++_}
@@ -13,22 +13,22 @@ use Rattle.std.proofs.shelf.Tests.{cases-eq, ne-eqb}
 use Rattle.std.proofs.shelf.Ways.{tells}
 use Rattle.sharing.specs.Sharing.{largest-amount}
 use Rattle.passing.specs.Passing.{largest-flow}
-use Rattle.year_model.specs.declared.tables.Contract.{Contract}
 use Rattle.year_model.specs.declared.tables.Coupling.{Coupling}
 use Rattle.year_model.specs.declared.tables.System.{System}
-use Rattle.year_model.specs.Sound.{Is-number, Sound, no-coupling, no-system, system-at}
-use Rattle.year_model.specs.State.{State, rank, with-contracts, with-couplings, with-systems}
+use Rattle.year_model.specs.Sound.{Is-number, no-coupling, no-system, system-at}
+use Rattle.year_model.specs.State.{State, rank, with-couplings, with-systems}
 use Rattle.year_model.specs.Systems.{below-count, most-below, most-couplings, most-systems, new-system}
 use Rattle.year_model.proofs.Entries.{Throughout, throughout-push}
+use Rattle.year_model.proofs.Grids.{Grid}
 use Rattle.year_model.proofs.Lookups.{Entry}
 
 -- A system that is there stays where it is when one more is opened.
-system-stays : (s : State) (y : System) (n : ℕ) → Is-number s n → system-at (with-systems s (s .systems ++ y ∷ [])) n ≡ system-at s n
+pub system-stays : (s : State) (y : System) (n : ℕ) → Is-number s n → system-at (with-systems s (s .systems ++ y ∷ [])) n ≡ system-at s n
 system-stays s y n is = getD-append-left (s .systems) (y ∷ []) no-system (n - 1) (omega arith)
 
 -- One more system, with nothing in it.
-pub sound-opened : (s : State) → Sound s → (level category : ℕ) → length (s .systems) < most-systems → Sound (with-systems s (s .systems ++ new-system level category ∷ []))
-sound-opened s v level category room =
+pub grid-opened : (s : State) → Grid s → (level category : ℕ) → length (s .systems) < most-systems → Grid (with-systems s (s .systems ++ new-system level category ∷ []))
+grid-opened s v level category room =
     let y = new-system level category in
     let longer = length-push (s .systems) y in
     record {
@@ -59,10 +59,10 @@ below-pushed cs c fit room n =
     (cases-eq n (c .upper))
 
 -- One more coupling, from a system of lower rank to one of higher rank.
-pub sound-coupled : (s : State) → Sound s → (c : Coupling) (upper lower : System) → Entry (s .systems) (c .upper) upper → Entry (s .systems) (c .lower) lower
+pub grid-coupled : (s : State) → Grid s → (c : Coupling) (upper lower : System) → Entry (s .systems) (c .upper) upper → Entry (s .systems) (c .lower) lower
     → length (s .couplings) < most-couplings → below-count (s .couplings) (c .upper) < most-below → rank upper < rank lower → c .kw ≤ largest-flow → c .mwh ≤ largest-flow
-    → Sound (with-couplings s (s .couplings ++ c ∷ []))
-sound-coupled s v c upper lower at-upper at-lower room few rises kw mwh =
+    → Grid (with-couplings s (s .couplings ++ c ∷ []))
+grid-coupled s v c upper lower at-upper at-lower room few rises kw mwh =
     record {
       tables = (v .tables .0, omega (arith, length-push (s .couplings) c), below-pushed (s .couplings) c (v .tables .2) few);
       systems = v .systems;
@@ -72,8 +72,3 @@ sound-coupled s v c upper lower at-upper at-lower room few rises kw mwh =
       flows = throughout-push (λ x. (x .kw ≤ largest-flow) × (x .mwh ≤ largest-flow)) (s .couplings) c no-coupling (v .flows) (kw, mwh);
       money = v .money;
     }
-
--- Contracts have no part in it.
-pub sound-contracts : (s : State) → Sound s → (ks : List Contract) → Sound (with-contracts s ks)
-sound-contracts s v ks =
-    record { tables = v .tables; systems = v .systems; joined = v .joined; ranked = v .ranked; flows = v .flows; money = v .money }
