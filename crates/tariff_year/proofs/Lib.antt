@@ -1,3 +1,3 @@
 pub mod Entries
 pub mod Bounds
-pub mod Keeping
+pub mod Making

@@ -1,7 +1,7 @@
 // A tariff year and what it is made of.
 ghost use mathlib.Core.Path.{_≡_};
 ghost use Rattle.std.specs.Vec.{made};
-ghost use Rattle.year_model.specs.Sound.{Sound};
+ghost use Rattle.year_model.specs.Sound.{Is-sound};
 ghost use Rattle.year_model.specs.State.{begun, view};
 ghost use Rattle.tariff_year.specs.Years.{Roomy};
 use calendar::CalendarYear;
@@ -28,7 +28,7 @@ pub struct TariffYear<E: Edition, R: SharingRule> {
     pub(crate) book: u64,
     pub(crate) tables: Tables,
     ghost roomy: { Roomy tables },
-    ghost sound: { ∥ Sound (view tables) ∥₁ },
+    ghost sound: { Is-sound (view tables) },
 }
 
 impl<E: Edition + Drop, R: SharingRule + Drop> TariffYear<E, R> {

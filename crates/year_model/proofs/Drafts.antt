@@ -1,13 +1,12 @@
 -- A draft that is out is that of a contract.
 use mathlib.Core.Path.{_≡_, refl, sym, ap, _∙_}
 use mathlib.Core.Bool.{Bool, true, false, cond}
-use mathlib.Core.Logic.{⊎-elim}
 use Prim.Native.Nat.{ℕ}
 use native.Mathlib.Omega.{arith}
 use lib.Dec.{eqb}
 use Rattle.std.specs.declared.option.Option.{Option}
 use Rattle.std.specs.declared.option.Option.the-variants.{Some, None}
-use Rattle.std.proofs.shelf.Tests.{cases-bool, cond-false, cond-true, eqb-true}
+use Rattle.std.proofs.shelf.Tests.{eqb-true}
 use Rattle.year_model.specs.declared.tables.Contract.{Contract}
 use Rattle.year_model.specs.declared.tables.Started.{Started}
 use Rattle.year_model.specs.Bills.{draft-out, out-of, out-with}
@@ -20,6 +19,7 @@ passed-test : {X : Type 0} (test : Bool) (o : Option X) (x : X) → cond test o 
 passed-test true o x e = (refl, e)
 passed-test false o x e = let z : _≡_ {A = ℕ} 0 1 = cc in absurd (omega arith)
 
+-- What is out of a contract that is given, with what it was started with.
 out-with-some : (c : Contract) (month : ℕ) (started : Option Started) (out : Contract × Started) → out-with c month started ≡ Some out → (c ≡ out .0) × (started ≡ Some (out .1)) × (month ≡ c .month)
 out-with-some c month None out e = let z : _≡_ {A = ℕ} 0 1 = cc in absurd (omega arith)
 out-with-some c month (Some d) out e =
@@ -27,6 +27,7 @@ out-with-some c month (Some d) out e =
     let same : (c, d) ≡ out = cc in
     (ap (λ (p : Contract × Started). p .0) same, ap (λ (p : Contract × Started). Some (p .1)) same, eqb-true month (c .month) (passed .0))
 
+-- What is out of a contract that was looked up.
 out-of-some : (month : ℕ) (looked : Option Contract) (out : Contract × Started) → out-of month looked ≡ Some out
     → (looked ≡ Some (out .0)) × (out .0 .started ≡ Some (out .1)) × (month ≡ out .0 .month)
 out-of-some month None out e = let z : _≡_ {A = ℕ} 0 1 = cc in absurd (omega arith)
@@ -41,6 +42,7 @@ pub record Out (m : Makings) (s : State) (book n month : ℕ) (out : Contract ×
   pub of-book : book ≡ m .book
   pub of-month : month ≡ out .0 .month
 
+-- So it is of every draft that is out.
 pub out-from-draft : (m : Makings) (s : State) (book n month : ℕ) (out : Contract × Started) → draft-out m s book n month ≡ Some out → Out m s book n month out
 out-from-draft m s book n month out e =
     let passed = passed-test (eqb book (m .book)) (out-of month (numbered (s .contracts) n)) out e in

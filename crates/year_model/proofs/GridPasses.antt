@@ -8,7 +8,6 @@ use lib.Dec.{eqb, ltb}
 use lib.ListN.{length, getD}
 use Rattle.std.specs.Iters.{counting}
 use Rattle.std.specs.shelf.Lists.{All, sum}
-use Rattle.std.specs.declared.option.Option.{Option}
 use Rattle.std.specs.declared.option.Option.the-variants.{Some, None}
 use Rattle.std.proofs.shelf.Elements.{all-from-getD, all-kept-by, all-map, all-weaker}
 use Rattle.std.proofs.shelf.Lists.{length-map, length-set}
@@ -20,7 +19,6 @@ use Rattle.sharing.specs.Limits.{above}
 use Rattle.sharing.proofs.SharingLaws.{sum-counted}
 use Rattle.passing.specs.Passing.{Passable, largest-flow, nothing-to-go-by}
 use Rattle.passing.proofs.Passes.{received-adds-up}
-use Rattle.year_model.specs.declared.tables.Coupling.{Coupling}
 use Rattle.year_model.specs.declared.tables.System.{System}
 use Rattle.year_model.specs.Makings.{Lawful, Makings}
 use Rattle.year_model.specs.Passes.{below, emptied, handed-down, in-the-way, pass-state, receives, taker-kws, taker-mwhs}
@@ -49,6 +47,7 @@ flows-below s v n =
     all-kept-by (λ c. eqb (c .upper) n) (λ c. (c .kw ≤ largest-flow) × (c .mwh ≤ largest-flow)) (s .couplings)
     (all-from-getD (λ c. (c .kw ≤ largest-flow) × (c .mwh ≤ largest-flow)) (s .couplings) no-coupling (v .flows))
 
+-- The couplings below a system lead to systems that are there.
 pub below-leads : (s : State) → Grid s → (n : ℕ) → All (Leads-within (length (s .systems))) (below s n)
 below-leads s v n =
     all-kept-by (λ c. eqb (c .upper) n) (Leads-within (length (s .systems))) (s .couplings)
@@ -114,10 +113,12 @@ systems-passed s n x f = handed-down f 1 (below s n) (renumbered (s .systems) n 
 
 -- A pass moves euros, and what the takers receive goes down.
 module _ (s : State) (v : Grid s) (n : ℕ) (x : System) (at : Entry (s .systems) n x) (f : ℕ → ℕ) where
+  -- What the takers receive but the consumers stands at the systems below.
   euros-handed : More-standing (sum (map f (counting 1 (length (below s n))))) (renumbered (s .systems) n (emptied x (f 0))) (systems-passed s n x f)
   euros-handed =
       handed-down-adds f 1 (below s n) (renumbered (s .systems) n (emptied x (f 0))) (length (s .systems)) (length-set (s .systems) (n - 1) (emptied x (f 0))) (below-leads s v n)
 
+  -- Nothing but euros moves.
   pub euros-move : Euros-move (s .systems) (systems-passed s n x f)
   euros-move =
       let xs = s .systems in

@@ -1,9 +1,9 @@
 -- A sound grid stays sound where a system or a coupling is added.
-use mathlib.Core.Path.{_≡_, refl, sym, ap, _∙_}
-use mathlib.Core.Bool.{Bool, true, false, cond}
+use mathlib.Core.Path.{_≡_, refl, sym, ap}
+use mathlib.Core.Bool.{cond}
 use mathlib.Core.List.{List, [], _∷_, _++_}
 use mathlib.Core.Logic.{⊎-elim}
-use Prim.Native.Nat.{ℕ, _+_, _-_, _≤_, _<_}
+use Prim.Native.Nat.{ℕ, _-_, _≤_, _<_}
 use native.Mathlib.Omega.{arith}
 use lib.Dec.{eqb}
 use lib.ListN.{length, getD}
@@ -11,14 +11,13 @@ use Rattle.std.proofs.shelf.Lists.{getD-append-left, length-push}
 use Rattle.std.proofs.shelf.Sums.{sumBy-push}
 use Rattle.std.proofs.shelf.Tests.{cases-eq, ne-eqb}
 use Rattle.std.proofs.shelf.Ways.{tells}
-use Rattle.sharing.specs.Sharing.{largest-amount}
 use Rattle.passing.specs.Passing.{largest-flow}
 use Rattle.year_model.specs.declared.tables.Coupling.{Coupling}
 use Rattle.year_model.specs.declared.tables.System.{System}
 use Rattle.year_model.specs.Sound.{Is-number, no-coupling, no-system, system-at}
 use Rattle.year_model.specs.State.{State, rank, with-couplings, with-systems}
 use Rattle.year_model.specs.Systems.{below-count, most-below, most-couplings, most-systems, new-system}
-use Rattle.year_model.proofs.Entries.{Throughout, throughout-push}
+use Rattle.year_model.proofs.Entries.{throughout-push}
 use Rattle.year_model.proofs.Grids.{Grid}
 use Rattle.year_model.proofs.Lookups.{Entry}
 

@@ -1,23 +1,19 @@
 -- A sound state in two halves: the grid with its euros, and the contracts.
-use mathlib.Core.Path.{_≡_, refl, sym, ap, _∙_}
+use mathlib.Core.Path.{_≡_, ap}
 use mathlib.Core.Bool.{true}
-use mathlib.Core.List.{List}
 use mathlib.Core.Logic.{⊎-elim}
 use Prim.Native.Nat.{ℕ, _+_, _-_, _*_, _≤_, _<_}
 use native.Mathlib.Omega.{arith}
-use lib.ListN.{length, getD}
-use Rattle.std.specs.declared.option.Option.{Option}
-use Rattle.std.specs.declared.option.Option.the-variants.{Some, None}
+use lib.ListN.{length}
+use Rattle.std.specs.declared.option.Option.the-variants.{Some}
 use Rattle.std.proofs.shelf.Lists.{getD-past}
 use Rattle.std.proofs.shelf.Tests.{cases-lt}
 use Rattle.billing.specs.Charges.{largest-charge, largest-fee, largest-kw}
-use Rattle.billing.specs.Fixings.{largest-tariff}
 use Rattle.billing.specs.Metering.{cents-to-date, largest-line}
 use Rattle.calendar.specs.Days.{month-of}
 use Rattle.year_model.specs.declared.tables.Contract.{Contract}
 use Rattle.year_model.specs.declared.tables.Started.{Started}
-use Rattle.year_model.specs.declared.tables.System.{System}
-use Rattle.year_model.specs.Bills.{fixing-tariff, kwh-line, kwmax-line, most-contracts, plain-rate, tariff-of-contract}
+use Rattle.year_model.specs.Bills.{kwh-line, kwmax-line, plain-rate, tariff-of-contract}
 use Rattle.year_model.specs.Calls.{largest-number}
 use Rattle.year_model.specs.Sound.{Contracts-fit, Couplings-join, Flows-fit, Is-number, Money-balances, Ranks-rise, Sound, Systems-fit, Tables-fit, Tariffs-fit, contract-at, months-billed, no-contract, system-at}
 use Rattle.year_model.specs.State.{State, is-fixed}
@@ -48,9 +44,11 @@ pub record Register (s : State) : Type 0 where
   pub few : Contracts-fit s
   pub held : Throughout (Held s) (s .contracts) no-contract
 
+-- the grid of a sound state
 pub grid-of : (s : State) → Sound s → Grid s
 grid-of s v = record { tables = v .tables; systems = v .systems; joined = v .joined; ranked = v .ranked; flows = v .flows; money = v .money }
 
+-- the contracts of a sound state
 pub register-of : (s : State) → Sound s → Register s
 register-of s v =
     record {

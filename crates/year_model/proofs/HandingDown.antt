@@ -6,15 +6,13 @@ use native.Mathlib.Omega.{arith}
 use lib.ListN.{length, getD, set}
 use Rattle.std.specs.Iters.{counting}
 use Rattle.std.specs.shelf.Lists.{All, sum}
-use Rattle.std.specs.declared.option.Option.{Option}
-use Rattle.std.specs.declared.option.Option.the-variants.{Some, None}
 use Rattle.std.proofs.shelf.Lists.{getD-map, length-map, map-set, set-getD}
 use Rattle.std.proofs.shelf.Sums.{sumBy-cons, sumBy-set}
 use Rattle.year_model.specs.declared.tables.Coupling.{Coupling}
 use Rattle.year_model.specs.declared.tables.System.{System}
-use Rattle.year_model.specs.Passes.{handed-down, more-at, more-standing}
+use Rattle.year_model.specs.Passes.{handed-down, more-standing}
 use Rattle.year_model.specs.Sound.{all-landed, all-standing, no-system}
-use Rattle.year_model.specs.State.{numbered, renumbered}
+use Rattle.year_model.specs.State.{renumbered}
 use Rattle.year_model.specs.Systems.{standing-at}
 use Rattle.year_model.proofs.Lookups.{Entry, entry-from-numbered, numbered-from-entry}
 
@@ -59,6 +57,7 @@ more-at-entry xs n euros x at =
       rest = map-set (λ z. standing-at z 0) xs (n - 1) y ∙ ap (λ (z : System). set (emptied-all xs) (n - 1) z) old ∙ set-getD (emptied-all xs) (n - 1) no-system;
     }
 
+-- So it is at every system that is there.
 pub more-standing-at : (xs : List System) (n euros : ℕ) → 1 ≤ n → n ≤ length xs → More-standing euros xs (more-standing xs n euros)
 more-standing-at xs n euros low high =
     let x = getD xs (n - 1) no-system in

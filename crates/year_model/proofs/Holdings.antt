@@ -1,23 +1,21 @@
 -- What is held of a contract: when it is made, when a draft is handed out or torn, and when a month is billed.
-use mathlib.Core.Path.{_≡_, refl, sym, ap, subst, _∙_}
-use mathlib.Core.Bool.{Bool, true, false}
-use Prim.Native.Nat.{ℕ, _+_, _-_, _*_, _≤_, _<_}
+use mathlib.Core.Path.{_≡_, sym, ap, subst, _∙_}
+use Prim.Native.Nat.{ℕ, _+_, _-_, _≤_}
 use native.Mathlib.Omega.{arith}
-use lib.ListN.{length}
 use Rattle.std.specs.Options.{isSome}
 use Rattle.std.specs.declared.option.Option.{Option}
 use Rattle.std.specs.declared.option.Option.the-variants.{Some, None}
 use Rattle.billing.specs.declared.fixings.Fixing.{Fixing}
-use Rattle.billing.specs.Charges.{largest-charge, largest-fee, largest-kw, portion}
+use Rattle.billing.specs.Charges.{largest-charge, largest-fee, largest-kw}
 use Rattle.billing.specs.Metering.{cents-to-date, largest-line}
 use Rattle.calendar.specs.Days.{month-of}
 use Rattle.year_model.specs.declared.tables.Contract.{Contract}
 use Rattle.year_model.specs.declared.tables.Started.{Started}
 use Rattle.year_model.specs.declared.tables.System.{System}
-use Rattle.year_model.specs.Bills.{billed, kwh-line, kwmax-line, month-issued, month-waived, new-contract, plain-rate, tariff-of-contract, with-draft}
+use Rattle.year_model.specs.Bills.{billed, kwh-line, kwmax-line, new-contract, plain-rate, tariff-of-contract, with-draft}
 use Rattle.year_model.specs.Calls.{largest-number}
 use Rattle.year_model.specs.Makings.{Lawful, Makings}
-use Rattle.year_model.specs.Sound.{months-billed, no-system}
+use Rattle.year_model.specs.Sound.{no-system}
 use Rattle.year_model.specs.State.{State}
 use Rattle.year_model.proofs.Grids.{Held}
 use Rattle.year_model.proofs.Lookups.{Entry}

@@ -1,3 +1,5 @@
+pub mod Acceptance
+pub mod DatedCalls
 pub mod Drafts
 pub mod Entries
 pub mod GridPasses
@@ -6,7 +8,6 @@ pub mod GridTables
 pub mod Grids
 pub mod HandingDown
 pub mod Holdings
-pub mod Holds
 pub mod Lookups
 pub mod MonthsBilled
 pub mod Outcomes
@@ -14,5 +15,6 @@ pub mod Refused
 pub mod Registers
 pub mod SoundCalls
 pub mod SoundChanges
+pub mod SoundFact
 pub mod SoundPasses
 pub mod TariffsFixed

@@ -1,16 +1,14 @@
 -- Contracts stay sound where systems change, and where one contract is added or changed.
 use mathlib.Core.Path.{_≡_, refl, sym, ap, subst, _∙_}
-use mathlib.Core.Bool.{Bool, true, false, cond}
+use mathlib.Core.Bool.{true}
 use mathlib.Core.List.{List, [], _∷_, _++_}
-use Prim.Native.Nat.{ℕ, _+_, _-_, _*_, _/_, _≤_, _<_}
+use Prim.Native.Nat.{ℕ, _+_, _-_, _≤_, _<_}
 use native.Mathlib.Omega.{arith}
 use lib.ListN.{length, getD, set}
 use Rattle.std.specs.Options.{isSome}
 use Rattle.std.specs.declared.option.Option.{Option}
-use Rattle.std.specs.declared.option.Option.the-variants.{Some, None}
 use Rattle.std.proofs.shelf.Lists.{length-push, length-set}
 use Rattle.billing.specs.declared.fixings.Fixing.{Fixing}
-use Rattle.billing.specs.Fixings.{largest-tariff}
 use Rattle.billing.specs.Metering.{cents-to-date, largest-line}
 use Rattle.year_model.specs.declared.tables.Contract.{Contract}
 use Rattle.year_model.specs.declared.tables.Coupling.{Coupling}
@@ -18,7 +16,7 @@ use Rattle.year_model.specs.declared.tables.System.{System}
 use Rattle.year_model.specs.Bills.{fixing-tariff, most-contracts, plain-rate, system-tariff, tariff-of-contract}
 use Rattle.year_model.specs.Sound.{Is-number, no-contract, no-system, system-at}
 use Rattle.year_model.specs.State.{State, is-fixed, numbered, with-contract, with-contracts}
-use Rattle.year_model.proofs.Entries.{Throughout, throughout-push, throughout-set}
+use Rattle.year_model.proofs.Entries.{throughout-push, throughout-set}
 use Rattle.year_model.proofs.Grids.{Held, Register}
 use Rattle.year_model.proofs.Lookups.{Entry, numbered-from-entry}
 
@@ -33,16 +31,20 @@ tariff-there s n carrier is = ap (system-tariff carrier) (numbered-from-entry (s
 
 -- What is held of a contract stays.
 module _ (s t : State) (stay : Fixings-stay (s .systems) (t .systems)) (c : Contract) (held : Held s c) where
+  -- Its system keeps its tariffs.
   fixing-stays : system-at t (c .system) .fixing ≡ system-at s (c .system) .fixing
   fixing-stays = stay .same (c .system - 1) (omega (arith, held .placed .0)) (held .placed .1)
 
+  -- Its system is still there.
   there-still : Is-number t (c .system)
   there-still = (held .placed .0 .0, omega (arith, held .placed .0, stay .long))
 
+  -- So the contract goes by the same tariffs.
   pub tariff-stays : (carrier : ℕ) → tariff-of-contract t c carrier ≡ tariff-of-contract s c carrier
   tariff-stays carrier =
       tariff-there t (c .system) carrier there-still ∙ ap (fixing-tariff carrier) fixing-stays ∙ sym (tariff-there s (c .system) carrier (held .placed .0))
 
+  -- And all that is held of it stays.
   pub held-stays : Held t c
   held-stays =
       record {

@@ -1,6 +1,6 @@
 -- A sound state stays sound: one system or one coupling more, one system changed, one contract more or changed.
-use mathlib.Core.Path.{_≡_, refl, sym, ap, subst, _∙_}
-use mathlib.Core.Bool.{Bool, true, false}
+use mathlib.Core.Path.{_≡_, sym, ap, subst, _∙_}
+use mathlib.Core.Bool.{true}
 use mathlib.Core.List.{List, [], _∷_, _++_}
 use mathlib.Core.Logic.{⊎-elim}
 use Prim.Native.Nat.{ℕ, _+_, _-_, _≤_, _<_}
@@ -20,7 +20,7 @@ use Rattle.year_model.specs.Systems.{below-count, most-below, most-couplings, 
 use Rattle.year_model.proofs.Entries.{throughout-push, throughout-set}
 use Rattle.year_model.proofs.GridSystems.{Fits, grid-system}
 use Rattle.year_model.proofs.GridTables.{grid-coupled, grid-opened}
-use Rattle.year_model.proofs.Grids.{Grid, Held, Register, grid-of, register-of, sound-whole}
+use Rattle.year_model.proofs.Grids.{Grid, Held, grid-of, register-of, sound-whole}
 use Rattle.year_model.proofs.Lookups.{Entry}
 use Rattle.year_model.proofs.Registers.{Fixings-stay, fixings-same, register-changed, register-pushed, register-stays}
 use Rattle.year_model.proofs.TariffsFixed.{Tariffs-within}

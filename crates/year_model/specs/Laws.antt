@@ -5,7 +5,7 @@ use Rattle.std.specs.declared.result.Result.the-variants.{Err}
 use Rattle.refusal.specs.declared.refusal.Refusal.{Refusal}
 use Rattle.year_model.specs.Calls.{Call}
 use Rattle.year_model.specs.Makings.{Lawful, Makings}
-use Rattle.year_model.specs.Sound.{Sound}
+use Rattle.year_model.specs.Sound.{Sound, Terms-dated}
 use Rattle.year_model.specs.State.{State}
 use Rattle.year_model.specs.Steps.{after, reply, state-after}
 
@@ -20,3 +20,11 @@ Calls-keep-soundness = (m : Makings) → Lawful m → (s : State) → Sound s �
 -- Every list of calls leads to a sound state.
 abbrev pub Every-state-is-sound : Type 0
 Every-state-is-sound = (m : Makings) → Lawful m → (calls : List Call) → Sound (state-after m calls)
+
+-- Every call keeps the terms of the contracts within the calendar year.
+abbrev pub Calls-keep-dates : Type 0
+Calls-keep-dates = (m : Makings) (s : State) → Terms-dated (m .calendar) s → (c : Call) → Terms-dated (m .calendar) (after m s c)
+
+-- So they are after every list of calls.
+abbrev pub Every-term-is-dated : Type 0
+Every-term-is-dated = (m : Makings) (calls : List Call) → Terms-dated (m .calendar) (state-after m calls)

@@ -1,16 +1,16 @@
 -- What every state that calls lead to satisfies, whatever the makings: the bounds that keep every sum in range.
 use mathlib.Core.Path.{_≡_}
-use mathlib.Core.Bool.{true, false}
+use mathlib.Core.Bool.{true}
 use Prim.Native.Nat.{ℕ, _+_, _-_, _*_, _≤_, _<_}
-use mathlib.Core.List.{List, []}
+use mathlib.Core.List.{List}
 use lib.ListN.{length, getD}
 use Rattle.std.specs.shelf.Lists.{sumBy}
-use Rattle.std.specs.declared.option.Option.{Option}
-use Rattle.std.specs.declared.option.Option.the-variants.{Some, None}
+use Rattle.std.specs.declared.option.Option.the-variants.{Some}
 use Rattle.billing.specs.Charges.{largest-charge, largest-fee, largest-kw}
 use Rattle.billing.specs.Fixings.{largest-tariff}
 use Rattle.billing.specs.Metering.{cents-to-date, largest-line}
 use Rattle.calendar.specs.Days.{month-of}
+use Rattle.calendar.specs.Terms.{is-term}
 use Rattle.sharing.specs.Sharing.{largest-amount}
 use Rattle.passing.specs.Passing.{largest-flow}
 use Rattle.year_model.specs.declared.tables.Contract.{Contract}
@@ -20,7 +20,7 @@ use Rattle.year_model.specs.declared.tables.System.{System}
 use Rattle.year_model.specs.Bills.{fixing-tariff, kwh-line, kwmax-line, most-contracts, new-contract, plain-rate, tariff-of-contract}
 use Rattle.year_model.specs.Calls.{largest-number}
 use Rattle.year_model.specs.State.{State, is-fixed, rank}
-use Rattle.year_model.specs.Systems.{below-count, joining-count, most-below, most-couplings, most-systems, new-system}
+use Rattle.year_model.specs.Systems.{below-count, most-below, most-couplings, most-systems, new-system}
 
 -- the euros standing at all systems, and those landed
 abbrev pub all-standing : List System → ℕ
@@ -178,3 +178,12 @@ pub record Sound (s : State) : Type 0 where
   pub lines : Lines-due s
   pub drafts : Drafts-fit s
   pub payable : Drafts-payable s
+
+-- The same as a fact that has one proof at most, as what a struct carries must have.
+abbrev pub Is-sound : State → Type 0
+Is-sound s = ∥ Sound s ∥₁
+
+-- The term of every contract is one of this calendar year. It speaks of the calendar, so it stands beside the rest.
+abbrev pub Terms-dated : ℕ → State → Type 0
+Terms-dated calendar s =
+    (k : ℕ) → k < length (s .contracts) → is-term calendar (contract-at s k .first) (contract-at s k .last) ≡ true

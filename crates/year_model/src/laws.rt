@@ -1,5 +1,5 @@
 // What holds of every call.
-ghost use Rattle.year_model.specs.Laws.{Calls-keep-soundness, Every-state-is-sound, Refusals-change-nothing};
+ghost use Rattle.year_model.specs.Laws.{Calls-keep-dates, Calls-keep-soundness, Every-state-is-sound, Every-term-is-dated, Refusals-change-nothing};
 
 // A refused call leaves the state as it was.
 pub fn refusals_change_nothing()
@@ -10,4 +10,10 @@ pub fn refusals_change_nothing()
 pub fn calls_keep_the_year_sound()
     ensures kept { λ _. ⌜ Calls-keep-soundness ⌝ }
     ensures every_state { λ _. ⌜ Every-state-is-sound ⌝ }
+{}
+
+// Every call keeps the terms of the contracts within the calendar year, so they are after every list of calls.
+pub fn calls_keep_terms_in_the_year()
+    ensures kept { λ _. ⌜ Calls-keep-dates ⌝ }
+    ensures every_state { λ _. ⌜ Every-term-is-dated ⌝ }
 {}

@@ -2,6 +2,7 @@
 mod laws;
 mod tables;
 
+pub use laws::calls_keep_terms_in_the_year;
 pub use laws::calls_keep_the_year_sound;
 pub use laws::refusals_change_nothing;
 pub use tables::Cents;

@@ -7,9 +7,9 @@ use Rattle.year_model.specs.Calls.{call-cost}
 use Rattle.year_model.specs.State.{State, view, with-net, with-system}
 use Rattle.year_model.specs.Systems.{standing-at}
 use Rattle.tariff_year.specs.Years.{makings}
-use Rattle.tariff_year.proofs.Keeping.{lawful, stays-sound}
+use Rattle.tariff_year.proofs.Making.{lawful}
 use Rattle.tariff_year.proofs.Bounds.{standing-bounded}
-use Rattle.year_model.proofs.Holds.{money-holds}
+use Rattle.year_model.proofs.SoundFact.{is-sound-by, sound-from-fact}
 use Rattle.year_model.proofs.Lookups.{entry-from-numbered}
 use Rattle.tariff_year.proofs.year.TariffYear.cost.Needs as need
 
@@ -29,14 +29,14 @@ ghost-self g c =
     let m = makings (old .calendar .year) (old .book) longest share known percent in
     let law = lawful (old .calendar .year) (old .book) longest share known percent (old .calendar .from) (old .calendar .to) (g .R·SharingRule·met .twelve) (g .R·SharingRule·met .sharing (old .rule)) (g .E·Edition·met .hundred (old .edition)) in
     let later : State = with-net (with-system (view (old .tables)) (c .args .system) (standing-at (c .in-Some .old) (c .in-Some .old .standing + c .args .euros))) (old .tables .net + c .args .euros) in
-    let sound = stays-sound m law (call-cost (c .args .system) (c .args .euros)) (view (old .tables)) later (search needs) (old .sound) in
+    let sound = is-sound-by m law (call-cost (c .args .system) (c .args .euros)) (view (old .tables)) later (search needs) (old .sound) in
     (search needs, (sound, tt))
 
 pub add-standing : need.add-standing
 add-standing g c =
     let tables = c .args .self .now .tables in
-    let under = standing-bounded (view tables) (c .args .system) (c .in-Some .old) (money-holds (view tables) (c .args .self .now .sound)) (sym (c .in-Some .ensures tt)) in
-    omega (arith, money-holds (view tables) (c .args .self .now .sound) .1)
+    let under = standing-bounded (view tables) (c .args .system) (c .in-Some .old) (sound-from-fact (view tables) (c .args .self .now .sound) .money) (sym (c .in-Some .ensures tt)) in
+    omega (arith, sound-from-fact (view tables) (c .args .self .now .sound) .money .1)
 
 pub add-net : need.add-net
-add-net g c = let tables = c .args .self .now .tables in omega (arith, money-holds (view tables) (c .args .self .now .sound) .1)
+add-net g c = let tables = c .args .self .now .tables in omega (arith, sound-from-fact (view tables) (c .args .self .now .sound) .money .1)

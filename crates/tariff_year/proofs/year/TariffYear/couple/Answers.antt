@@ -3,7 +3,8 @@ use Rattle.year_model.specs.Calls.{call-couple}
 use Rattle.year_model.specs.State.{view}
 use Rattle.year_model.specs.declared.tables.Tables.{Tables}
 use Rattle.tariff_year.specs.Years.{makings}
-use Rattle.tariff_year.proofs.Keeping.{lawful, stays-sound}
+use Rattle.year_model.proofs.SoundFact.{is-sound-by}
+use Rattle.tariff_year.proofs.Making.{lawful}
 use Rattle.tariff_year.proofs.year.TariffYear.couple.Needs as need
 
 pub ghost-self : need.ghost-self
@@ -16,5 +17,5 @@ ghost-self g c =
     let m = makings (old .calendar .year) (old .book) longest share known percent in
     let law = lawful (old .calendar .year) (old .book) longest share known percent (old .calendar .from) (old .calendar .to) (g .R·SharingRule·met .twelve) (g .R·SharingRule·met .sharing (old .rule)) (g .E·Edition·met .hundred (old .edition)) in
     let new : Tables = record { systems = old .tables .systems; couplings = c .push-reserved .last .self; contracts = old .tables .contracts; net = old .tables .net } in
-    let sound = stays-sound m law (call-couple (c .args .upper) (c .args .lower) (c .args .kw) (c .args .mwh)) (view (old .tables)) (view new) (search needs) (old .sound) in
+    let sound = is-sound-by m law (call-couple (c .args .upper) (c .args .lower) (c .args .kw) (c .args .mwh)) (view (old .tables)) (view new) (search needs) (old .sound) in
     (search needs, (sound, tt))
