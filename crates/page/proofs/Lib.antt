@@ -1,0 +1,4 @@
+pub mod Reaching
+pub mod Answering
+pub mod Buffered
+pub mod Ending

@@ -1,0 +1,12 @@
+use Rattle.page.proofs.Buffered.{answered-with-room}
+use Rattle.page.proofs.Ending.{told-within, went-fewer}
+use Rattle.page.proofs.page.Page.answer_next.Needs as need
+
+pub returns-in-Ok : need.returns-in-Ok
+returns-in-Ok c =
+    record {
+      page = c .advance .ensures .page;
+      answered = answered-with-room _ _ _ _ _ _ _ _ _ (c .in-Ok .answer) _ (c .if-buffer-lt-LONGEST-ROW .left) (c .in-Ok .ensures tt .went) (c .write-next .ensures .told) (c .write-next .ensures .written);
+      within = told-within _ _ (c .in-Ok .answer) (c .write-next .ensures .told) (c .if-buffer-lt-LONGEST-ROW .left);
+      fewer = went-fewer _ _ _ _ _ _ _ _ (c .in-Ok .answer) (c .in-Ok .ensures tt .went) (c .write-next .ensures .told);
+    }

@@ -1,0 +1,5 @@
+pub mod Reached
+pub mod Answers
+pub mod First
+pub mod Runs
+pub mod Buffers
