@@ -2,3 +2,4 @@ pub mod Reaching
 pub mod Answering
 pub mod Buffered
 pub mod Ending
+pub mod Refusing

@@ -3,3 +3,4 @@ pub mod Answers
 pub mod First
 pub mod Runs
 pub mod Buffers
+pub mod Laws

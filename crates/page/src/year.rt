@@ -32,6 +32,11 @@ impl PageYear {
         Ok(PageYear { year })
     }
 
+    // A list of calls led to the year's state, under the edition of 2013, the running rule and book 0.
+    pub fn is_reached_by_calls(&self)
+        ensures { λ _. ⌜ Reached (page-makings (now (self .entry) .year .calendar .year)) (view (now (self .entry) .year .tables)) ⌝ }
+    {}
+
     // One system more at this level and of this category; answers its number.
     pub fn open(&mut self, level: u64, category: u64) -> Result<u64, Refusal>
         ensures did { λ r. ⌜ Did (page-makings (now (self .entry) .year .calendar .year)) (view (now (self .entry) .year .tables)) (call-open level category) (told-number r) (view (now (self .exit) .year .tables)) ⌝ }

@@ -4,7 +4,6 @@ ghost use lib.ListN.{length};
 ghost use Rattle.std.specs.Vec.{made};
 use page::Page;
 use page::PageError;
-use refusal::RefusalDisplay;
 use rows::LONGEST_PAGE;
 use rows::LONGEST_ROW;
 use std::alloc::AllocError;
