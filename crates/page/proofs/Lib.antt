@@ -3,3 +3,4 @@ pub mod Answering
 pub mod Buffered
 pub mod Ending
 pub mod Refusing
+pub mod Fitting
