@@ -1,3 +1,4 @@
+pub mod Accounts
 pub mod Acceptance
 pub mod DatedCalls
 pub mod Drafts

@@ -4,6 +4,7 @@ pub mod Fixes
 pub mod Laws
 pub mod Makings
 pub mod Passes
+pub mod Runs
 pub mod Sound
 pub mod State
 pub mod Steps

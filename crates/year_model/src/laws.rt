@@ -1,5 +1,5 @@
 // What holds of every call.
-ghost use Rattle.year_model.specs.Laws.{Calls-keep-dates, Calls-keep-soundness, Every-state-is-sound, Every-term-is-dated, Refusals-change-nothing};
+ghost use Rattle.year_model.specs.Laws.{Calls-keep-dates, Costs-are-accounted-for, Calls-keep-soundness, Every-state-is-sound, Every-term-is-dated, Refusals-change-nothing};
 
 // A refused call leaves the state as it was.
 pub fn refusals_change_nothing()
@@ -16,4 +16,10 @@ pub fn calls_keep_the_year_sound()
 pub fn calls_keep_terms_in_the_year()
     ensures kept { λ _. ⌜ Calls-keep-dates ⌝ }
     ensures every_state { λ _. ⌜ Every-term-is-dated ⌝ }
+{}
+
+// After every list of calls, under every lawful rule and edition, the accepted costs are what was taken back, what stands
+// and what landed.
+pub fn costs_are_accounted_for()
+    ensures { λ _. ⌜ Costs-are-accounted-for ⌝ }
 {}

@@ -4,6 +4,7 @@ mod tables;
 
 pub use laws::calls_keep_terms_in_the_year;
 pub use laws::calls_keep_the_year_sound;
+pub use laws::costs_are_accounted_for;
 pub use laws::refusals_change_nothing;
 pub use tables::Cents;
 pub use tables::Contract;
