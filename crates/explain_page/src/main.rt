@@ -3,13 +3,28 @@
 mod tests;
 mod words;
 
-ghost use Rattle.std.specs.Prelude.{◌≡◌, IfErr};
+ghost use Rattle.std.specs.Prelude.{◌≡◌, ◌≤◌, length, IfOk, IfErr};
 ghost use Rattle.rows.specs.Faults.{page_row};
 
-use page_input::read_page;
 use rows::{LONGEST_PAGE, NumberedRow, PageFault, Reader, Request, judge_length};
 use std::io;
+use std::io::Read;
 use words::Words;
+
+// Reads until the input ends or `page` is full, and answers how many bytes came.
+fn read_page<R: Read>(input: &mut R, page: &mut [u8]) -> io::Result<usize>
+    ensures { IfOk result (λ n. n ≤ length page.old) }
+{
+    let mut filled = 0;
+    while filled < page.len() {
+        let count = input.read(&mut page[filled..])?;
+        if count == 0 {
+            break;
+        }
+        filled += count;
+    }
+    Ok(filled)
+}
 
 // The request in a row, its fault as one of the page.
 fn request_in(row: NumberedRow<'_>) -> Result<Request, PageFault>

@@ -1,9 +1,6 @@
+pub mod Reaching
 pub mod Answering
-pub mod Billing
 pub mod Buffered
 pub mod Ending
-pub mod Fitting
-pub mod Places
-pub mod Reaching
 pub mod Refusing
-pub mod RowFaults
+pub mod Fitting

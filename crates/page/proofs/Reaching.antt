@@ -4,7 +4,6 @@ use mathlib.Core.Logic.{∥∥₁_map}
 use Rattle.edition.specs.Edition2013.{rows_2013}
 use Rattle.edition.specs.Tables.{known_in, percent_in}
 use Rattle.sharing.specs.Running.{running_share}
-use Rattle.year_model.specs.Books.{BooksKept, BooksTold}
 use Rattle.year_model.specs.Calls.{Call}
 use Rattle.year_model.specs.Makings.{Makings}
 use Rattle.year_model.specs.State.{State, begun}
@@ -20,17 +19,10 @@ reached_by m c s t goes reached =
     ∥∥₁_map reached (λ p. (c ∷ p.0, ap (λ (x : State). after m x c) p.1 ∙ sym goes))
 
 -- the makings of a page's year, at any book
-abbrev pub makings_at : ℕ → ℕ → Makings
+abbrev makings_at : ℕ → ℕ → Makings
 makings_at calendar book = makings calendar book 32 running_share (known_in rows_2013) (percent_in rows_2013)
 
 pub reached_later : (calendar later book : ℕ) (c : Call) (s t : State) → book ≡ 0 → later ≡ calendar → t ≡ after (makings_at calendar book) s c → Reached (page_makings calendar) s → Reached (page_makings later) t
 reached_later calendar later book c s t none same goes reached =
     let there = reached_by (page_makings calendar) c s t (subst (λ b. t ≡ after (makings_at calendar b) s c) none goes) reached in
     subst (λ y. Reached (page_makings y) t) (sym same) there
-
--- Where a list of calls led to a state, what a year tells of its books it may tell of that list.
-pub kept_from_told : (calendar book : ℕ) (s : State) (net standing landed fixed remainders : ℕ) → book ≡ 0 → Reached (page_makings calendar) s
-    → BooksTold (makings_at calendar book) s net standing landed fixed remainders → BooksKept (page_makings calendar) s net standing landed fixed remainders
-kept_from_told calendar book s net standing landed fixed remainders none reached told =
-    let here = subst (λ b. BooksTold (makings_at calendar b) s net standing landed fixed remainders) none told in
-    ∥∥₁_map reached (λ p. (p.0, p.1, (here p.0 p.1).0, (here p.0 p.1).1))

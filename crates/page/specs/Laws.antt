@@ -3,7 +3,7 @@ use Rattle.std.specs.Prelude.{◌≡◌, ℕ, ◌^◌, ◌<◌, List}
 use Rattle.refusal.specs.declared.ground.Ground.{Ground}
 use Rattle.rows.specs.Told.{AnswerFits}
 use Rattle.rows.specs.declared.answer.AnswerRow.TheVariants.{Refused}
-use Rattle.year_model.specs.Makings.{Lawful, Makings}
+use Rattle.year_model.specs.Makings.{Makings}
 use Rattle.year_model.specs.Sound.{Sound}
 use Rattle.year_model.specs.State.{State}
 use Rattle.page.specs.Answers.{row_answered, state_behind}
@@ -13,8 +13,7 @@ abbrev pub RefusedRowsChangeNothing : Type 0
 RefusedRowsChangeNothing =
     (m : Makings) (s : State) (number : ℕ) (row : List ℕ) (ground : Ground) (told place : ℕ) → row_answered m s number row ≡ Refused ground told place → (state_behind m s number row ≡ s) × (told ≡ number)
 
--- Every number of an answer row fits its field, under every lawful rule and edition, where the year is sound and the row's
--- number has at most ten digits.
+-- Every number of an answer row fits its field, where the year is sound and the row's number has at most ten digits.
 abbrev pub AnswersFit : Type 0
 AnswersFit =
-    (m : Makings) → Lawful m → (s : State) → Sound s → (number : ℕ) → number < 10 ^ 10 → (row : List ℕ) → AnswerFits (row_answered m s number row)
+    (m : Makings) (s : State) → Sound s → (number : ℕ) → number < 10 ^ 10 → (row : List ℕ) → AnswerFits (row_answered m s number row)

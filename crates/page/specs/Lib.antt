@@ -1,7 +1,6 @@
-pub mod Answers
-pub mod Bills
-pub mod Buffers
-pub mod First
-pub mod Laws
 pub mod Reached
+pub mod Answers
+pub mod First
 pub mod Runs
+pub mod Buffers
+pub mod Laws

@@ -4,6 +4,7 @@ mod error;
 mod first;
 mod laws;
 mod next;
+mod not_yet;
 mod page;
 mod year;
 

@@ -1,23 +1,16 @@
 // The tariff year that a page runs against.
-ghost use Rattle.std.specs.Prelude.{◌≡◌, IfOk, slice_index};
-ghost use Rattle.year_model.specs.Books.{BooksKept};
-ghost use Rattle.year_model.specs.Calls.{call_contract, call_cost, call_couple, call_fix, call_open, call_pass, call_settle, call_start, call_take_back, call_use};
+ghost use Rattle.std.specs.Prelude.{◌≡◌, IfOk};
+ghost use Rattle.year_model.specs.Calls.{call_cost, call_couple, call_open, call_take_back, call_use};
 ghost use Rattle.year_model.specs.State.{begun, view};
-ghost use Rattle.year_model.specs.Steps.{outcome};
-ghost use Rattle.tariff_year.specs.Books.{books_of};
-ghost use Rattle.tariff_year.specs.Replies.{told_passed, told_settled};
-ghost use Rattle.tariff_year.specs.Years.{Did, told_number, told_tariffs};
-ghost use Rattle.page.specs.Answers.{then_issued};
-ghost use Rattle.page.specs.Bills.{Billed, told_bill};
+ghost use Rattle.tariff_year.specs.Years.{Did, told_number};
 ghost use Rattle.page.specs.Reached.{Reached, page_makings};
 
-use billing::CARRIERS;
 use calendar::CalendarYear;
 use edition::Edition2013;
 use refusal::Refusal;
 use sharing::Running;
 use std::alloc::{AllocError, Global};
-use tariff_year::{Bill, Books, Fixed, Passed, Settled, TariffYear};
+use tariff_year::TariffYear;
 
 // A year under the edition of 2013 and the running rule, with book 0, whose state a list of calls led to.
 #[derive(Drop)]
@@ -85,69 +78,5 @@ impl PageYear {
         ensures kept { self.new.year.calendar ≡ self.old.year.calendar }
     {
         self.year.take_back(system, euros)
-    }
-
-    // Empties a system; answers the euros passed.
-    pub fn pass(&mut self, system: u64) -> Result<Passed, Refusal>
-        ensures did { Did (page_makings self.old.year.calendar.year) (view self.old.year.tables) (call_pass system) (told_passed result) (view self.new.year.tables) }
-        ensures kept { self.new.year.calendar ≡ self.old.year.calendar }
-    {
-        self.year.pass(system)
-    }
-
-    // Passes every unfixed system; answers the euros that landed.
-    pub fn settle(&mut self) -> Result<Settled, Refusal>
-        ensures did { Did (page_makings self.old.year.calendar.year) (view self.old.year.tables) (call_settle) (told_settled result) (view self.new.year.tables) }
-        ensures kept { self.new.year.calendar ≡ self.old.year.calendar }
-    {
-        self.year.settle()
-    }
-
-    // Cuts the landed euros of a system over the four carriers, by their volumes; answers the tariffs.
-    pub fn fix(&mut self, system: u64, volumes: [u64; CARRIERS]) -> Result<Fixed, Refusal>
-        ensures did { Did (page_makings self.old.year.calendar.year) (view self.old.year.tables) (call_fix system (slice_index volumes 0) (slice_index volumes 1) (slice_index volumes 2) (slice_index volumes 3)) (told_tariffs result) (view self.new.year.tables) }
-        ensures kept { self.new.year.calendar ≡ self.old.year.calendar }
-    {
-        self.year.fix(system, volumes)
-    }
-
-    // One contract more at a fixed system; answers its number.
-    pub fn contract(
-        &mut self,
-        system: u64,
-        kw: u64,
-        fee: u64,
-        first: u64,
-        last: u64,
-        reading: u64,
-    ) -> Result<u64, Refusal>
-        ensures did { Did (page_makings self.old.year.calendar.year) (view self.old.year.tables) (call_contract system kw fee first last reading) (told_number result) (view self.new.year.tables) }
-        ensures kept { self.new.year.calendar ≡ self.old.year.calendar }
-    {
-        self.year.contract(system, kw, fee, first, last, reading)
-    }
-
-    // Starts the next bill of a contract and issues it at once, so that no draft stays out.
-    pub fn bill(&mut self, contract: u64, kwmax: u64, reading: u64) -> Result<Bill, Refusal>
-        ensures billed { Billed (view self.old.year.tables) (then_issued (page_makings self.old.year.calendar.year) (outcome (page_makings self.old.year.calendar.year) (view self.old.year.tables) (call_start contract kwmax reading))) (told_bill result) (view self.new.year.tables) }
-        ensures kept { self.new.year.calendar ≡ self.old.year.calendar }
-    {
-        let draft = self.year.start(contract, kwmax, reading)?;
-        Ok(self.year.issue(draft).unwrap())
-    }
-
-    // Where the euros are. There is a list of calls that led here, its books balance, and these figures account for it.
-    pub fn books(&self) -> Books
-        ensures figures { result ≡ books_of (view self.now.year.tables) }
-        ensures books_balance { BooksKept (page_makings self.now.year.calendar.year) (view self.now.year.tables) result.net result.standing result.landed result.fixed result.remainders }
-    {
-        self.year.books()
-    }
-
-    // The year itself, to be asked.
-    pub fn year(&self) -> &TariffYear<Edition2013, Running>
-        ensures { result.now ≡ self.now.year }
-    {
-        &self.year
     }
 }

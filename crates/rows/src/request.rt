@@ -1,7 +1,7 @@
 // A request as a row: its letter, its numbers as fields, and a line feed.
 ghost use Rattle.std.specs.Prelude.{◌≡◌};
 ghost use Rattle.rows.specs.Lines.{ReadsExactly, Wrote};
-ghost use Rattle.rows.specs.Requests.{Fits, numbers as numbers_of, read_answer, read_as, row_bytes};
+ghost use Rattle.rows.specs.Requests.{Fits, numbers as NumbersOf, read_answer, read_as, row_bytes};
 ghost use Rattle.rows.specs.declared.request.Request.TheVariants.{CalendarYear, Contract, Cost, Couple, Fix, Open, Pass, Settle, Start, TakeBack, Use};
 
 use crate::fault::RowFault;
@@ -196,7 +196,7 @@ pub fn read_row(row: &[u8]) -> Result<Request, RowFault>
 
 // Writes a request's row at the front of the buffer, which has to have 62 bytes, and answers its length; or refuses and writes nothing.
 pub fn write_row(request: Request, buffer: &mut [u8]) -> Result<usize, Refusal>
-    ensures { Wrote (numbers_of request) (row_bytes request) buffer.old buffer.new result }
+    ensures { Wrote (NumbersOf request) (row_bytes request) buffer.old buffer.new result }
 {
     match request {
         Request::CalendarYear { year } => write_line(b'Y', &[year], buffer),

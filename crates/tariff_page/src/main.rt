@@ -1,10 +1,26 @@
 // Answers a page of requests from standard input, row by row, on standard output: by the edition of 2013, the running rule and book 0.
+ghost use Rattle.std.specs.Prelude.{◌≤◌, length, IfOk};
+
 use page::{Page, PageError};
-use page_input::read_page;
 use rows::{LONGEST_PAGE, LONGEST_ROW};
 use std::alloc::AllocError;
 use std::io;
-use std::io::Write;
+use std::io::{Read, Write};
+
+// Reads until the input ends or `page` is full, and answers how many bytes came.
+fn read_page<R: Read>(input: &mut R, page: &mut [u8]) -> io::Result<usize>
+    ensures { IfOk result (λ n. n ≤ length page.old) }
+{
+    let mut filled = 0;
+    while filled < page.len() {
+        let count = input.read(&mut page[filled..])?;
+        if count == 0 {
+            break;
+        }
+        filled += count;
+    }
+    Ok(filled)
+}
 
 fn io_error(error: PageError) -> io::Error {
     match error {

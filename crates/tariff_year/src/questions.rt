@@ -3,11 +3,12 @@ ghost use Rattle.std.specs.Prelude.{◌≡◌};
 ghost use Rattle.year_model.specs.State.{view};
 ghost use Rattle.tariff_year.specs.Questions.{asked, counts_of};
 
-use crate::look_up::found;
+use crate::look_up::entry;
+use crate::systems::LARGEST_NUMBER;
 use crate::year::TariffYear;
 use calendar::CalendarYear;
 use edition::Edition;
-use refusal::Refusal;
+use refusal::{Ground, Refusal};
 use sharing::SharingRule;
 use year_model::{Coupling, System};
 
@@ -61,5 +62,18 @@ impl<E: Edition + Drop, R: SharingRule + Drop> TariffYear<E, R> {
         ensures { result ≡ asked (view self.now.tables).couplings number }
     {
         found(&self.tables.couplings, number)
+    }
+}
+
+// The entry with this number, or why there is none.
+fn found<T: Copy>(entries: &Vec<T>, number: u64) -> Result<T, Refusal>
+    ensures { result ≡ asked entries.now.items number }
+{
+    if number > LARGEST_NUMBER {
+        return Err(Refusal::at(Ground::OutOfBounds, 1));
+    }
+    match entry(entries, number) {
+        Some(entry) => Ok(entry),
+        None => Err(Refusal::of(Ground::NotThere)),
     }
 }

@@ -73,7 +73,6 @@ pub record Fixes (m : Makings) (s : State) (n : ℕ) (volumes : List ℕ) (x : S
   pub at : Unfixed s n x
   pub settled : x.standing ≡ 0
   pub all_above : unfixed_above s n ≡ 0
-  pub known : m.known x.category ≡ true
   pub told : fixing_answer m.share x.landed (percentages m.percent x.category) volumes ≡ Ok f
 
 -- what an accepted contract has met
@@ -200,16 +199,14 @@ module _ (m : Makings) (s : State) (Q : Outcome → Type 0) (refused : (refusal 
       past_limits s Q refused ((n, largest_number) ∷ (v₁, largest_number) ∷ (v₂, largest_number) ∷ (v₃, largest_number) ∷ (v₄, largest_number) ∷ []) _ (λ bounds.
       past_unfixed s Q refused n _ (λ x at.
       past_test s Q refused (ltb 0 x.standing || ltb 0 (unfixed_above s n)) _ _ (λ settled.
-      past_test s Q refused (not (m.known x.category)) _ _ (λ known.
       let parts = or_parts (ltb 0 x.standing) (ltb 0 (unfixed_above s n)) settled in
       accepted_fix_with n x (fixing_answer m.share x.landed (percentages m.percent x.category) volumes) (λ f told.
       goes_on x f record {
         at = at;
         settled = omega (arith, ltb-false 0 x.standing parts.0);
         all_above = omega (arith, ltb-false 0 (unfixed_above s n) parts.1);
-        known = not-false (m.known x.category) known;
         told = told;
-      })))))
+      }))))
 
   -- Contract, with the fixing of the system given.
   accepted_contract_with : (n kw fee first last reading : ℕ) (fixing : Option Fixing)

@@ -9,7 +9,7 @@ use Rattle.year_model.specs.declared.tables.Contract.{Contract}
 use Rattle.year_model.specs.declared.tables.Started.{Started}
 use Rattle.year_model.specs.Bills.{kwh_line, kwmax_line, plain_rate, tariff_of_contract}
 use Rattle.year_model.specs.Calls.{largest_number}
-use Rattle.year_model.specs.Sound.{ContractsFit, CouplingsJoin, FixingsWhole, FlowsFit, IsNumber, MoneyBalances, RanksRise, Sound, SystemsFit, TablesFit, TariffsFit, contract_at, months_billed, no_contract, system_at}
+use Rattle.year_model.specs.Sound.{ContractsFit, CouplingsJoin, FlowsFit, IsNumber, MoneyBalances, RanksRise, Sound, SystemsFit, TablesFit, TariffsFit, contract_at, months_billed, no_contract, system_at}
 use Rattle.year_model.specs.State.{State, is_fixed}
 use Rattle.year_model.proofs.Entries.{Throughout}
 
@@ -71,8 +71,8 @@ draft_of_contract s k d e =
     (cases_lt k (length s.contracts))
 
 -- The halves make a whole.
-pub sound_whole : (s : State) → Grid s → TariffsFit s → FixingsWhole s → Register s → Sound s
-sound_whole s grid tariffs fixings register =
+pub sound_whole : (s : State) → Grid s → TariffsFit s → Register s → Sound s
+sound_whole s grid tariffs register =
     record {
       tables = grid.tables;
       systems = grid.systems;
@@ -81,7 +81,6 @@ sound_whole s grid tariffs fixings register =
       flows = grid.flows;
       money = grid.money;
       tariffs = tariffs;
-      fixings = fixings;
       contracts = register.few;
       placed = λ k h. (register.held k h).placed;
       months = λ k h. (register.held k h).months;

@@ -1,7 +1,6 @@
 -- Every call leaves a sound state sound, so every state that calls lead to is sound.
-use Rattle.std.proofs.Common.{◌≡◌, ℕ, ◌+◌, ◌-◌, ◌*◌, [], ◌∷◌, Some, None, sym, refl, subst, arith}
+use Rattle.std.proofs.Common.{◌≡◌, ℕ, ◌+◌, ◌-◌, [], ◌∷◌, Some, None, sym, refl, subst, arith}
 use Rattle.std.proofs.lemmas.Bool.{both_ways}
-use Rattle.billing.specs.declared.fixings.Fixing.{Fixing}
 use Rattle.billing.specs.Charges.{charge}
 use Rattle.edition.specs.Editions.{percentages}
 use Rattle.year_model.specs.Bills.{billed, new_contract, tariff_at, with_draft}
@@ -10,7 +9,7 @@ use Rattle.year_model.specs.Fixes.{with_fixing}
 use Rattle.year_model.specs.Laws.{CallsKeepSoundness, EveryStateIsSound}
 use Rattle.year_model.specs.Makings.{Lawful, Makings}
 use Rattle.year_model.specs.Passes.{settle_order}
-use Rattle.year_model.specs.Sound.{Sound, fixing_euros}
+use Rattle.year_model.specs.Sound.{Sound}
 use Rattle.year_model.specs.State.{State, begun, is_fixed}
 use Rattle.year_model.specs.Steps.{after, state_after}
 use Rattle.year_model.specs.Systems.{standing_at, with_use}
@@ -23,7 +22,7 @@ use Rattle.year_model.proofs.MonthsBilled.{month_of_day}
 use Rattle.year_model.proofs.Registers.{held_entry}
 use Rattle.year_model.proofs.SoundChanges.{sound_contract, sound_contracted, sound_coupled, sound_opened, sound_system}
 use Rattle.year_model.proofs.SoundPasses.{sound_in_turn, sound_passed}
-use Rattle.year_model.proofs.TariffsFixed.{entry_priced, entry_tariffs, fixing_whole, fixing_within}
+use Rattle.year_model.proofs.TariffsFixed.{entry_tariffs, fixing_within}
 
 -- The state before the first call is sound.
 pub sound_begun : Sound begun
@@ -36,7 +35,6 @@ sound_begun =
       flows = λ k h. absurd (omega arith);
       money = (refl, omega arith);
       tariffs = λ k h. absurd (omega arith);
-      fixings = λ k h. absurd (omega arith);
       contracts = omega arith;
       placed = λ k h. absurd (omega arith);
       months = λ k h. absurd (omega arith);
@@ -61,17 +59,17 @@ sound_after m law s v (call_couple upper lower kw mwh) =
     sound_coupled s v record { upper = upper; lower = lower; kw = kw; mwh = mwh } above below ok.at_upper ok.at_lower ok.room ok.few ok.rises ok.kw_fits ok.mwh_fits)
 sound_after m law s v (call_use n kw mwh permille) =
     accepted_use m s (SoundAfter s) (λ _. v) n kw mwh permille (λ x ok.
-    sound_system s v n x (with_use x kw mwh permille) s.net ok.at.entry refl (ok.kw_fits, ok.mwh_fits, ok.permille_fits) refl v.money.1 (λ _. refl) (entry_tariffs s v.tariffs n x ok.at.entry) (entry_priced s v.fixings n x ok.at.entry))
+    sound_system s v n x (with_use x kw mwh permille) s.net ok.at.entry refl (ok.kw_fits, ok.mwh_fits, ok.permille_fits) refl v.money.1 (λ _. refl) (entry_tariffs s v.tariffs n x ok.at.entry))
 sound_after m law s v (call_cost n euros) =
     accepted_cost m s (SoundAfter s) (λ _. v) n euros (λ x ok.
     let at = ok.at.entry in
-    sound_system s v n x (standing_at x (x.standing + euros)) (s.net + euros) at refl (entry_fits s (grid_of s v) n x at) (omega arith) ok.fits (λ _. refl) (entry_tariffs s v.tariffs n x at) (entry_priced s v.fixings n x at))
+    sound_system s v n x (standing_at x (x.standing + euros)) (s.net + euros) at refl (entry_fits s (grid_of s v) n x at) (omega arith) ok.fits (λ _. refl) (entry_tariffs s v.tariffs n x at))
 sound_after m law s v (call_take_back n euros) =
     accepted_take_back m s (SoundAfter s) (λ _. v) n euros (λ x ok.
     let at = ok.at.entry in
     let enough = ok.stands in
     let within = standing_small s (grid_of s v) n x at in
-    sound_system s v n x (standing_at x (x.standing - euros)) (s.net - euros) at refl (entry_fits s (grid_of s v) n x at) (omega arith) (omega (arith, v.money.1)) (λ _. refl) (entry_tariffs s v.tariffs n x at) (entry_priced s v.fixings n x at))
+    sound_system s v n x (standing_at x (x.standing - euros)) (s.net - euros) at refl (entry_fits s (grid_of s v) n x at) (omega arith) (omega (arith, v.money.1)) (λ _. refl) (entry_tariffs s v.tariffs n x at))
 sound_after m law s v (call_pass n) = sound_passed m law s v n
 sound_after m law s v call_settle = accepted_settle m s (SoundAfter s) (λ _. v) (λ _. sound_in_turn m law s v (settle_order s))
 sound_after m law s v (call_fix n v₁ v₂ v₃ v₄) =
@@ -79,8 +77,7 @@ sound_after m law s v (call_fix n v₁ v₂ v₃ v₄) =
     let at = ok.at.entry in
     sound_system s v n x (with_fixing x f) s.net at refl (entry_fits s (grid_of s v) n x at) refl v.money.1
     (λ was. absurd (both_ways (is_fixed x) ok.at.unfixed was))
-    (fixing_within m.share x.landed (percentages m.percent x.category) (v₁ ∷ v₂ ∷ v₃ ∷ v₄ ∷ []) f x ok.told)
-    (λ g e. let same : f ≡ g = cc in subst (λ (h : Fixing). fixing_euros h ≡ 10000 * x.landed) same (fixing_whole m law x.landed x.category (v₁ ∷ v₂ ∷ v₃ ∷ v₄ ∷ []) f ok.told).whole))
+    (fixing_within m.share x.landed (percentages m.percent x.category) (v₁ ∷ v₂ ∷ v₃ ∷ v₄ ∷ []) f x ok.told))
 sound_after m law s v (call_contract n kw fee first last reading) =
     accepted_contract m s (SoundAfter s) (λ _. v) n kw fee first last reading (λ x f ok.
     let yearly = charge fee kw (tariff_at f 1) (tariff_at f 4) in

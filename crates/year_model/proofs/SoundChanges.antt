@@ -17,15 +17,7 @@ use Rattle.year_model.proofs.GridTables.{grid_coupled, grid_opened}
 use Rattle.year_model.proofs.Grids.{Grid, Held, grid_of, register_of, sound_whole}
 use Rattle.year_model.proofs.Lookups.{Entry}
 use Rattle.year_model.proofs.Registers.{FixingsStay, fixings_same, register_changed, register_pushed, register_stays}
-use Rattle.year_model.proofs.TariffsFixed.{Priced, TariffsWithin}
-
--- What is fixed stays where a system is added.
-pub fixings_opened : (xs : List System) (y : System) → FixingsStay xs (xs ++ y ∷ [])
-fixings_opened xs y =
-    record {
-      long = omega (arith, length_push xs y);
-      same = λ k h fixed. ap (λ (z : System). z.fixing) (get_or_append_left xs (y ∷ []) no_system k h);
-    }
+use Rattle.year_model.proofs.TariffsFixed.{TariffsWithin}
 
 -- One more system, with nothing in it.
 pub sound_opened : (s : State) → Sound s → (level category : ℕ) → length s.systems < most_systems → Sound (with_systems s (s.systems ++ new_system level category ∷ []))
@@ -33,11 +25,14 @@ sound_opened s v level category room =
     let xs = s.systems in
     let y = new_system level category in
     let ys = xs ++ y ∷ [] in
+    let stay : FixingsStay xs ys = record {
+      long = omega (arith, length_push xs y);
+      same = λ k h fixed. ap (λ (z : System). z.fixing) (get_or_append_left xs (y ∷ []) no_system k h);
+    } in
     sound_whole (with_systems s ys)
     (grid_opened s (grid_of s v) level category room)
     (throughout_push TariffsWithin xs y no_system v.tariffs (λ carrier. omega arith))
-    (throughout_push Priced xs y no_system v.fixings (λ f e. let z : ◌≡◌ {A = ℕ} 0 1 = cc in absurd (omega arith)))
-    (register_stays s (register_of s v) ys s.couplings s.net (fixings_opened xs y))
+    (register_stays s (register_of s v) ys s.couplings s.net stay)
 
 -- One more coupling, from a system of lower rank to one of higher rank.
 pub sound_coupled : (s : State) → Sound s → (c : Coupling) (upper lower : System) → Entry s.systems c.upper upper → Entry s.systems c.lower lower
@@ -48,11 +43,10 @@ sound_coupled s v c upper lower at_upper at_lower room few rises kw mwh =
     sound_whole (with_couplings s cs)
     (grid_coupled s (grid_of s v) c upper lower at_upper at_lower room few rises kw mwh)
     v.tariffs
-    v.fixings
     (register_stays s (register_of s v) s.systems cs s.net (fixings_same s.systems))
 
 -- A system that is fixed keeps its tariffs when one system changes and that one keeps its own.
-pub fixings_set : (xs : List System) (n : ℕ) (x y : System) → Entry xs n x → (is_fixed x ≡ true → y.fixing ≡ x.fixing) → FixingsStay xs (renumbered xs n y)
+fixings_set : (xs : List System) (n : ℕ) (x y : System) → Entry xs n x → (is_fixed x ≡ true → y.fixing ≡ x.fixing) → FixingsStay xs (renumbered xs n y)
 fixings_set xs n x y at keeps =
     let inside : n - 1 < length xs = omega (arith, at.low, at.high) in
     let is = at.here no_system in
@@ -72,14 +66,13 @@ fixings_set xs n x y at keeps =
 -- One system changed, of the same rank and within bounds, with its tariffs kept where it is fixed: what it has more or less is
 -- what the net costs grew or shrank by.
 pub sound_system : (s : State) → Sound s → (n : ℕ) (x y : System) (net : ℕ) → Entry s.systems n x → rank y ≡ rank x → Fits y
-    → s.net + (y.standing + y.landed) ≡ net + (x.standing + x.landed) → net ≤ largest_amount → (is_fixed x ≡ true → y.fixing ≡ x.fixing) → TariffsWithin y → Priced y
+    → s.net + (y.standing + y.landed) ≡ net + (x.standing + x.landed) → net ≤ largest_amount → (is_fixed x ≡ true → y.fixing ≡ x.fixing) → TariffsWithin y
     → Sound (with_net (with_system s n y) net)
-sound_system s v n x y net at same fit more small keeps within priced =
+sound_system s v n x y net at same fit more small keeps within =
     let xs = s.systems in
     sound_whole (with_net (with_system s n y) net)
     (grid_system s (grid_of s v) n x y net at same fit more small)
     (throughout_set TariffsWithin xs (n - 1) y no_system v.tariffs within)
-    (throughout_set Priced xs (n - 1) y no_system v.fixings priced)
     (register_stays s (register_of s v) (renumbered xs n y) s.couplings net (fixings_set xs n x y at keeps))
 
 -- The grid has no part in the contracts.
@@ -89,9 +82,9 @@ grid_contracts s v cs = record { tables = v.tables; systems = v.systems; joined 
 -- One contract more.
 pub sound_contracted : (s : State) → Sound s → (c : Contract) → Held s c → length s.contracts < most_contracts → Sound (with_contracts s (s.contracts ++ c ∷ []))
 sound_contracted s v c held room =
-    sound_whole (with_contracts s (s.contracts ++ c ∷ [])) (grid_contracts s (grid_of s v) (s.contracts ++ c ∷ [])) v.tariffs v.fixings (register_pushed s (register_of s v) c held room)
+    sound_whole (with_contracts s (s.contracts ++ c ∷ [])) (grid_contracts s (grid_of s v) (s.contracts ++ c ∷ [])) v.tariffs (register_pushed s (register_of s v) c held room)
 
 -- One contract changed.
 pub sound_contract : (s : State) → Sound s → (n : ℕ) (c : Contract) → Held s c → Sound (with_contract s n c)
 sound_contract s v n c held =
-    sound_whole (with_contract s n c) (grid_contracts s (grid_of s v) (renumbered s.contracts n c)) v.tariffs v.fixings (register_changed s (register_of s v) n c held)
+    sound_whole (with_contract s n c) (grid_contracts s (grid_of s v) (renumbered s.contracts n c)) v.tariffs (register_changed s (register_of s v) n c held)

@@ -4,7 +4,7 @@ use mathlib.Core.Logic.{∥∥₁_elim, ∥∥₁_map}
 use denote.Struct.Props.{props}
 use Rattle.year_model.specs.Calls.{Call}
 use Rattle.year_model.specs.Makings.{Lawful, Makings}
-use Rattle.year_model.specs.Sound.{CentsFit, ChargesFit, ContractsFit, ContractsPlaced, CouplingsJoin, DraftsFit, DraftsPayable, FixingsWhole, FlowsFit, IsSound, LinesDue, MetersFit, MoneyBalances, MonthsFit, RanksRise, Sound, SystemsFit, TablesFit, TariffsFit}
+use Rattle.year_model.specs.Sound.{CentsFit, ChargesFit, ContractsFit, ContractsPlaced, CouplingsJoin, DraftsFit, DraftsPayable, FlowsFit, IsSound, LinesDue, MetersFit, MoneyBalances, MonthsFit, RanksRise, Sound, SystemsFit, TablesFit, TariffsFit}
 use Rattle.year_model.specs.State.{State, begun}
 use Rattle.year_model.specs.Steps.{after}
 use Rattle.year_model.proofs.SoundCalls.{sound_begun, sound_by}
@@ -30,9 +30,6 @@ one_money s = hlevel props
 
 one_tariffs : (s : State) → IsProp (TariffsFit s)
 one_tariffs s = hlevel props
-
-one_fixings : (s : State) → IsProp (FixingsWhole s)
-one_fixings s = hlevel props
 
 one_contracts : (s : State) → IsProp (ContractsFit s)
 one_contracts s = hlevel props
@@ -71,7 +68,6 @@ one_sound s x y =
     let same_flows = one_flows s x.flows y.flows in
     let same_money = one_money s x.money y.money in
     let same_tariffs = one_tariffs s x.tariffs y.tariffs in
-    let same_fixings = one_fixings s x.fixings y.fixings in
     let same_contracts = one_contracts s x.contracts y.contracts in
     let same_placed = one_placed s x.placed y.placed in
     let same_months = one_months s x.months y.months in
@@ -81,7 +77,7 @@ one_sound s x y =
     let same_lines = one_lines s x.lines y.lines in
     let same_drafts = one_drafts s x.drafts y.drafts in
     let same_payable = one_payable s x.payable y.payable in
-    let same : ◌≡◌ {A = Sound s} (record { tables = x.tables; systems = x.systems; joined = x.joined; ranked = x.ranked; flows = x.flows; money = x.money; tariffs = x.tariffs; fixings = x.fixings; contracts = x.contracts; placed = x.placed; months = x.months; charges = x.charges; meters = x.meters; cents = x.cents; lines = x.lines; drafts = x.drafts; payable = x.payable }) (record { tables = y.tables; systems = y.systems; joined = y.joined; ranked = y.ranked; flows = y.flows; money = y.money; tariffs = y.tariffs; fixings = y.fixings; contracts = y.contracts; placed = y.placed; months = y.months; charges = y.charges; meters = y.meters; cents = y.cents; lines = y.lines; drafts = y.drafts; payable = y.payable }) = cc in
+    let same : ◌≡◌ {A = Sound s} (record { tables = x.tables; systems = x.systems; joined = x.joined; ranked = x.ranked; flows = x.flows; money = x.money; tariffs = x.tariffs; contracts = x.contracts; placed = x.placed; months = x.months; charges = x.charges; meters = x.meters; cents = x.cents; lines = x.lines; drafts = x.drafts; payable = x.payable }) (record { tables = y.tables; systems = y.systems; joined = y.joined; ranked = y.ranked; flows = y.flows; money = y.money; tariffs = y.tariffs; contracts = y.contracts; placed = y.placed; months = y.months; charges = y.charges; meters = y.meters; cents = y.cents; lines = y.lines; drafts = y.drafts; payable = y.payable }) = cc in
     same
 
 -- So the fact gives back all that it says.

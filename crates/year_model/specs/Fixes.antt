@@ -1,6 +1,6 @@
 -- Fixing the tariffs of a system.
 use Rattle.std.specs.Prelude.{ℕ, Bool, false, cond, not, ◌&&◌, ◌||◌, List, [], ◌∷◌, Some, None, Ok, Err, count_by, Option, Result, ◌==◌, nat_lt}
-use Rattle.refusal.specs.declared.ground.Ground.TheVariants.{NotSettled, UnknownCategory}
+use Rattle.refusal.specs.declared.ground.Ground.TheVariants.{NotSettled}
 use Rattle.refusal.specs.declared.refusal.Refusal.{Refusal}
 use Rattle.refusal.specs.Refusals.{refuse}
 use Rattle.billing.specs.declared.fixings.Fixing.{Fixing}
@@ -29,12 +29,10 @@ fix_with s n x (Ok f) = Ok (with_system s n (with_fixing x f), f.tariffs)
 fix_with s n x (Err refusal) = Err refusal
 
 -- Fix cuts the landed euros over the carriers and tells the four tariffs. Nothing may stand at the system, and every
--- system coupled above it must be fixed. The edition is asked for the percentages; it knows the category of every system
--- that was opened.
+-- system coupled above it must be fixed.
 abbrev pub fixed : Makings → State → ℕ → ℕ → ℕ → ℕ → ℕ → Outcome
 fixed m s n v₁ v₂ v₃ v₄ =
     within ((n, largest_number) ∷ (v₁, largest_number) ∷ (v₂, largest_number) ∷ (v₃, largest_number) ∷ (v₄, largest_number) ∷ [])
     (on_unfixed s n (λ x.
     cond (nat_lt 0 x.standing || nat_lt 0 (unfixed_above s n)) (Err (refuse NotSettled n))
-    (cond (not (m.known x.category)) (Err (refuse UnknownCategory 0))
-    (fix_with s n x (fixing_answer m.share x.landed (percentages m.percent x.category) (v₁ ∷ v₂ ∷ v₃ ∷ v₄ ∷ []))))))
+    (fix_with s n x (fixing_answer m.share x.landed (percentages m.percent x.category) (v₁ ∷ v₂ ∷ v₃ ∷ v₄ ∷ [])))))

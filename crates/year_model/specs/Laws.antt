@@ -1,10 +1,10 @@
 -- What holds of every call.
-use Rattle.std.specs.Prelude.{◌≡◌, ℕ, ◌+◌, ◌<◌, true, List, length, Err, slice_index_or}
+use Rattle.std.specs.Prelude.{◌≡◌, ◌+◌, List, Err}
 use Rattle.refusal.specs.declared.refusal.Refusal.{Refusal}
 use Rattle.year_model.specs.Calls.{Call}
 use Rattle.year_model.specs.Makings.{Lawful, Makings}
-use Rattle.year_model.specs.Runs.{accepted_costs, accepted_take_backs, journal}
-use Rattle.year_model.specs.Sound.{all_landed, all_standing, no_system, Sound, TermsDated}
+use Rattle.year_model.specs.Runs.{accepted_costs, accepted_take_backs}
+use Rattle.year_model.specs.Sound.{all_landed, all_standing, Sound, TermsDated}
 use Rattle.year_model.specs.State.{State}
 use Rattle.year_model.specs.Steps.{after, reply, state_after}
 
@@ -32,10 +32,4 @@ EveryTermIsDated = (m : Makings) (calls : List Call) → TermsDated m.calendar (
 abbrev pub CostsAreAccountedFor : Type 0
 CostsAreAccountedFor =
     (m : Makings) → Lawful m → (calls : List Call) →
-    accepted_costs (journal m calls) ≡ accepted_take_backs (journal m calls) + all_standing (state_after m calls).systems + all_landed (state_after m calls).systems
-
--- After every list of calls the edition knows the category of every system, so that fix is never refused for it.
-abbrev pub CategoriesAreKnown : Type 0
-CategoriesAreKnown =
-    (m : Makings) → Lawful m → (calls : List Call) → (k : ℕ) → k < length (state_after m calls).systems
-    → m.known (slice_index_or (state_after m calls).systems k no_system).category ≡ true
+    accepted_costs m calls ≡ accepted_take_backs m calls + all_standing (state_after m calls).systems + all_landed (state_after m calls).systems

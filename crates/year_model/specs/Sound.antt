@@ -1,8 +1,7 @@
 -- What every state that calls lead to satisfies, whatever the makings: the bounds that keep every sum in range.
-use Rattle.std.specs.Prelude.{◌≡◌, ℕ, ◌+◌, ◌-◌, ◌*◌, ◌<◌, ◌≤◌, true, List, length, get_or, Some, sum_by, sum, slice_index, slice_index_or}
+use Rattle.std.specs.Prelude.{◌≡◌, ℕ, ◌+◌, ◌-◌, ◌*◌, ◌<◌, ◌≤◌, true, List, length, get_or, Some, sum_by, slice_index_or}
 use Rattle.billing.specs.Charges.{largest_charge, largest_fee, largest_kw}
-use Rattle.billing.specs.declared.fixings.Fixing.{Fixing}
-use Rattle.billing.specs.Fixings.{each_carrier, largest_tariff}
+use Rattle.billing.specs.Fixings.{largest_tariff}
 use Rattle.billing.specs.Metering.{cents_to_date, largest_line}
 use Rattle.calendar.specs.Days.{month_of}
 use Rattle.calendar.specs.Terms.{is_term}
@@ -79,16 +78,6 @@ MoneyBalances s = (all_standing s.systems + all_landed s.systems ≡ s.net) × (
 abbrev pub TariffsFit : State → Type 0
 TariffsFit s =
     (k : ℕ) → k < length s.systems → (carrier : ℕ) → fixing_tariff carrier (get_or s.systems k no_system).fixing ≤ largest_tariff
-
--- a system's tariffs times its volumes, and its remainders
-abbrev pub fixing_euros : Fixing → ℕ
-fixing_euros f = sum (each_carrier (λ i. slice_index f.tariffs i * slice_index f.volumes i + slice_index f.remainders i))
-
--- They are the landed euros of a fixed system, in ten-thousandths.
-abbrev pub FixingsWhole : State → Type 0
-FixingsWhole s =
-    (k : ℕ) → k < length s.systems → (f : Fixing) → (get_or s.systems k no_system).fixing ≡ Some f →
-    fixing_euros f ≡ 10000 * (get_or s.systems k no_system).landed
 
 -- what stands where no contract does
 abbrev pub no_contract : Contract
@@ -174,7 +163,6 @@ pub record Sound (s : State) : Type 0 where
   pub flows : FlowsFit s
   pub money : MoneyBalances s
   pub tariffs : TariffsFit s
-  pub fixings : FixingsWhole s
   pub contracts : ContractsFit s
   pub placed : ContractsPlaced s
   pub months : MonthsFit s

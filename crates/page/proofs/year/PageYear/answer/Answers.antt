@@ -1,6 +1,6 @@
 use Rattle.std.proofs.Common.{refl, ap, ◌∙◌}
 use Rattle.year_model.specs.State.{view}
-use Rattle.page.specs.Answers.{figures_row}
+use Rattle.page.specs.Answers.{reply_row}
 use Rattle.page.specs.Reached.{page_makings}
 use Rattle.page.proofs.Answering.{fault_answered, fault_behind, request_answered, request_behind}
 use Rattle.page.proofs.year.PageYear.answer.Goals as goal
@@ -12,7 +12,7 @@ returns-in-Ok c =
     let row = c.args.row.bytes.now in
     let asks = c.in-Ok.ensures in
     record {
-      answer = c.row_of.ensures ∙ ap (figures_row number) c.call.ensures.told ∙ request_answered (page_makings year.calendar.year) (view year.tables) number row c.in-Ok.request asks;
+      answer = c.row_of.ensures ∙ ap (reply_row number) c.call.ensures.told ∙ request_answered (page_makings year.calendar.year) (view year.tables) number row c.in-Ok.request asks;
       state = c.call.ensures.state ∙ request_behind (page_makings year.calendar.year) (view year.tables) number row c.in-Ok.request asks;
       kept = c.call.ensures.kept;
     }
