@@ -1,4 +1,6 @@
 // What lands with consumers becomes tariffs, and tariffs become bills: the arithmetic, on plain numbers.
+#![tactic(auto)]
+
 mod charges;
 mod fixings;
 mod metering;

@@ -1,4 +1,6 @@
 // The calendar: which numbers are days of a year, and how a month's days lie to a first and a last date.
+#![tactic(auto)]
+
 mod laws;
 mod term;
 mod year;

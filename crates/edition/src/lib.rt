@@ -1,4 +1,6 @@
 // Editions: which categories there are, and the percentage of each on the four carriers.
+#![tactic(auto)]
+
 mod edition;
 mod edition_2013;
 mod entered;

@@ -1,4 +1,6 @@
 // Explains a page of requests row by row, in words: what each row asks, or what is wrong with it.
+#![tactic(auto)]
+
 #[cfg(test)]
 mod tests;
 mod words;

@@ -1,4 +1,6 @@
 // Answers each line `year first last` of standard input by the days of the twelve months before, in and after that term.
+#![tactic(auto)]
+
 mod question;
 mod table;
 

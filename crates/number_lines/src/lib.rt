@@ -1,4 +1,6 @@
 // Lines of decimal numbers with blanks between, as people type them at the programs.
+#![tactic(auto)]
+
 mod line_fault;
 mod read;
 mod tally;

@@ -1,4 +1,6 @@
 // Shows where the odd euros fall: each line of standard input, `amount weight weight ..`, shared by both rules.
+#![tactic(auto)]
+
 mod show;
 
 use number_lines::{Outcome, Tally, read_numbers};

@@ -1,4 +1,6 @@
 // Runs a page of requests against a tariff year, row by row.
+#![tactic(auto)]
+
 mod answer;
 mod error;
 mod first;

@@ -1,4 +1,6 @@
 // A pass worked out on plain numbers: where every euro that stands at a system goes.
+#![tactic(auto)]
+
 mod bounds;
 mod columns;
 mod pass;

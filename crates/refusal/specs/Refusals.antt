@@ -6,7 +6,7 @@ use Rattle.refusal.specs.Grounds.{ground_number}
 
 -- the refusal on this ground at this place
 abbrev pub refuse : Ground → ℕ → Refusal
-refuse ground place = record { ground = ground; place = place }
+refuse why place = let ground : Ground = why in record { ground = ground; place = place }
 
 -- a refusal by its two numbers, as an answer row tells them
 abbrev pub refusal_numbers : Refusal → ℕ × ℕ

@@ -1,4 +1,6 @@
 // Why a call was refused: one of 26 grounds, and the place of the argument or the system that it is about.
+#![tactic(auto)]
+
 mod ground;
 mod refusal;
 

@@ -24,12 +24,12 @@ figures_listed (Six a b c d e f) = a ∷ b ∷ c ∷ d ∷ e ∷ f ∷ []
 -- The letter of an answer row: A or R.
 abbrev pub answer_letter : AnswerRow → ℕ
 answer_letter (Told figures) = 65
-answer_letter (Refused ground row place) = 82
+answer_letter (Refused why row place) = 82
 
 -- The numbers of an answer row, in the order of its fields.
 abbrev pub answer_numbers : AnswerRow → List ℕ
 answer_numbers (Told figures) = figures_listed figures
-answer_numbers (Refused ground row place) = ground_number ground ∷ row ∷ place ∷ []
+answer_numbers (Refused why row place) = ground_number why ∷ row ∷ place ∷ []
 
 -- The bytes of an answer row.
 abbrev pub answer_bytes : AnswerRow → List ℕ
@@ -87,7 +87,7 @@ telling (Err e) = Err e
 -- The answer that refuses on this ground; where the number is no ground's, the first field is malformed.
 abbrev pub refusing : Option Ground → ℕ → ℕ → Result AnswerRow RowFault
 refusing None row place = Err (Field (malformed 1))
-refusing (Some ground) row place = Ok (Refused ground row place)
+refusing (Some why) row place = Ok (Refused why row place)
 
 -- The refusal with these numbers, or what is wrong with them.
 abbrev pub refusing_with : Result (List ℕ) RowFault → Result AnswerRow RowFault

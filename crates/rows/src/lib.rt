@@ -1,4 +1,6 @@
 // Rows of a page: requests and answers as lines of fields, read and written.
+#![tactic(auto)]
+
 mod answer;
 mod fault;
 mod field;

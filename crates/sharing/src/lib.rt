@@ -1,4 +1,6 @@
 // Sharing rules: an amount divided over a list of weights in whole euros, told share by share.
+#![tactic(auto)]
+
 mod all_shares;
 mod greatest_rule;
 mod laws;

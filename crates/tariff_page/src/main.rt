@@ -1,4 +1,6 @@
 // Answers a page of requests from standard input, row by row, on standard output: by the edition of 2013, the running rule and book 0.
+#![tactic(auto)]
+
 ghost use Rattle.std.specs.Prelude.{◌≤◌, length, IfOk};
 
 use page::{Page, PageError};

@@ -1,4 +1,6 @@
 // The tariff year of a grid operator: its tables, and the calls that change them.
+#![tactic(auto)]
+
 mod look_up;
 mod questions;
 mod systems;

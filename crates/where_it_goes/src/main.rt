@@ -1,5 +1,7 @@
 // Shows where every euro of a pass goes: each line of standard input, `amount permille kW MWh kW MWh ..`, by both rules.
 // The first pair is the consumers', the others are those of the couplings in order of entry.
+#![tactic(auto)]
+
 mod fraction;
 mod proportion;
 mod question;

@@ -55,7 +55,7 @@ tells n = told (n ∷ [])
 
 -- the answer that refuses on this ground at this place
 abbrev pub refused : ℕ → ℕ → Answer
-refused ground place = Err (ground, place)
+refused why place = Err (why, place)
 
 -- Calls that are written oldest first, in the order of the model: the newest first.
 abbrev pub in_order : List Call → List Call

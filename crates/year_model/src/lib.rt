@@ -1,4 +1,6 @@
 // The tariff year as plain tables, and the model of what its calls mean (specs/).
+#![tactic(auto)]
+
 mod laws;
 mod tables;
 

@@ -3,7 +3,7 @@ use Rattle.std.proofs.lemmas.List.Sums.{get_or-le-sum_by}
 use Rattle.sharing.specs.Greatest.{ahead, remainder}
 use Rattle.sharing.specs.Counting.{count_more}
 use Rattle.sharing.proofs.greatest_rule.rank_of.Goals as goal
-use Rattle.sharing.proofs.greatest_rule.rank_of.Goals.{then-is-ahead, else-is-ahead}
+use Rattle.sharing.proofs.greatest_rule.rank_of.Goals.{then-is_ahead, else-is_ahead}
 
 pub remainder_of-own-requires : goal.remainder_of-own-requires
 remainder_of-own-requires c =
@@ -24,12 +24,12 @@ test c j =
 pub loop-other-preserved : goal.loop-other-preserved
 loop-other-preserved c =
     elim c.if-is_ahead.branch [
-      | then-is-ahead w ↦
+      | then-is_ahead w ↦
           let told = w.if-is_ahead.ensures in
           let here : test c c.loop-other.other ≡ true = cc in
           let more = count_more (test c) c.loop-other.other true here in
           (omega arith, omega arith)
-      | else-is-ahead w ↦
+      | else-is_ahead w ↦
           let told = w.if-is_ahead.ensures in
           let here : test c c.loop-other.other ≡ false = cc in
           let more = count_more (test c) c.loop-other.other false here in
