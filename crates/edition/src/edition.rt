@@ -26,7 +26,7 @@ pub trait Edition {
 
 // The percentages of the category on the carriers 1 to 4, in their order.
 pub fn percentages<E: Edition>(edition: &E, category: u64) -> Result<[u64; 4], Refusal>
-    ensures { result ≡ row_answer (known edition.now) (percent edition.now) category }
+    ensures { result ≡ row_answer (E.known edition.now) (E.percent edition.now) category }
 {
     Ok([
         edition.percent(category, 1)?,

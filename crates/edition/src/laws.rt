@@ -5,6 +5,6 @@ use crate::edition::Edition;
 
 // The four percentages of a known category add up as a list, and none of them exceeds 100.
 pub fn edition_laws_hold<E: Edition>(edition: &E)
-    ensures percentages_add_up { PercentagesAddUp (known edition.now) (percent edition.now) }
-    ensures no_percentage_above { NoPercentageAbove100 (known edition.now) (percent edition.now) }
+    ensures percentages_add_up { PercentagesAddUp (E.known edition.now) (E.percent edition.now) }
+    ensures no_percentage_above { NoPercentageAbove100 (E.known edition.now) (E.percent edition.now) }
 {}

@@ -1,8 +1,8 @@
 -- What follows from the sharing law, for every rule.
-use Rattle.std.proofs.Common.{◌≡◌, ℕ, zero, suc, ◌+◌, ◌*◌, ◌<◌, ◌≤◌, List, map, length, get_or, sum, sym, refl, ap, ◌∙◌, lt_of_mul-lt-mul_right, one-mul, mul-zero, add-one, arith}
+use Rattle.std.proofs.Common.{◌≡◌, ℕ, zero, suc, ◌*◌, ◌<◌, map, length, sum, sym, refl, ap, ◌∙◌, lt_of_mul-lt-mul_right, one-mul, mul-zero, add-one, arith}
 use Rattle.std.specs.List.{range_with_len}
 use Rattle.std.proofs.lemmas.List.FromFn.{sum_by-map-range_with_len_more}
-use Rattle.sharing.specs.Sharing.{Meaning, Sharable, SharingLaw, all_shares, sum_below}
+use Rattle.sharing.specs.Sharing.{Meaning, SharingLaw, sum_below}
 use Rattle.sharing.specs.Laws.{SharesAddUp, NoWeightNoShare, NoShareAboveTheAmount}
 use Rattle.sharing.specs.Counting.{term_le}
 

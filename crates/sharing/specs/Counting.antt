@@ -1,6 +1,6 @@
 -- Sums and counts over the numbers below n.
-use Rattle.std.specs.Prelude.{◌≡◌, ℕ, zero, suc, ◌+◌, ◌*◌, ◌<◌, ◌≤◌, Bool, true, false, cond, List, length, take, sum, slice_index, refl}
-use Rattle.std.proofs.Common.{sym, ap, ◌∙◌, add-one, arith, inl, inr, ⊎_elim}
+use Rattle.std.specs.Prelude.{◌≡◌, ℕ, zero, suc, ◌+◌, ◌<◌, ◌≤◌, Bool, true, false, cond, List, length, take, sum, slice_index, refl}
+use Rattle.std.proofs.Common.{sym, ap, ◌∙◌, add-one, arith, ⊎_elim}
 use Rattle.std.proofs.lemmas.List.Sums.{sum_by_more}
 use Rattle.std.proofs.lemmas.Bool.{cases_eq}
 use Rattle.sharing.specs.Sharing.{sum_below}

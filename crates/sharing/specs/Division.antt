@@ -1,5 +1,5 @@
 -- Quotients that are rounded down.
-use Rattle.std.specs.Prelude.{◌≡◌, ℕ, ◌+◌, ◌-◌, ◌*◌, ◌/◌, ◌%◌, ◌<◌, ◌≤◌}
+use Rattle.std.specs.Prelude.{◌≡◌, ℕ, ◌+◌, ◌-◌, ◌*◌, ◌/◌, ◌<◌, ◌≤◌}
 use Rattle.std.proofs.Common.{sym, mod-lt, add-mul, mul-div_cancel, mul-le-mul_left, arith}
 use Rattle.std.proofs.lemmas.Nat.{div-add-mod', le-div}
 

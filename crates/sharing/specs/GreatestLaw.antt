@@ -1,12 +1,12 @@
 -- The rule of the greatest remainder keeps the law of sharing.
-use Rattle.std.specs.Prelude.{◌≡◌, ℕ, zero, suc, ◌+◌, ◌-◌, ◌*◌, ◌/◌, ◌%◌, ◌<◌, ◌≤◌, Bool, true, false, cond, ◌&&◌, ◌||◌, ltb, List, length, take, sum, nat_lt, slice_index, refl}
+use Rattle.std.specs.Prelude.{◌≡◌, ℕ, zero, suc, ◌+◌, ◌*◌, ◌<◌, ◌≤◌, Bool, true, false, cond, ltb, List, length, take, sum, nat_lt, slice_index}
 use Rattle.std.proofs.Common.{sym, ap, ◌∙◌, ⊎_elim, add-zero, mul-add, mul-zero, zero-mul, add-mul, one-mul, mul-le-mul_left, le_of_mul-le-mul_right, add-one, arith}
 use Rattle.std.proofs.lemmas.List.{take_all}
 use Rattle.std.proofs.lemmas.List.Sums.{sum_by_more, sum_by-take-le}
 use Rattle.std.proofs.lemmas.Nat.{div-add-mod', mod_below}
 use Rattle.std.proofs.lemmas.Bool.{cases_Bool, cases_lt, ltb-true}
 use Rattle.std.proofs.lemmas.Bool.Decides.{nat_tests}
-use Rattle.sharing.specs.Sharing.{sum_below, SharingLaw, Sharable, Near}
+use Rattle.sharing.specs.Sharing.{sum_below, SharingLaw, Near}
 use Rattle.sharing.specs.Greatest.{rounded_share, remainder, ahead, rank_among, rank, count_below, left_over, greatest_share}
 use Rattle.sharing.specs.Counting.{sum_plus}
 use Rattle.sharing.specs.Division.{mul_diff}

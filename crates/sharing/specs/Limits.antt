@@ -1,5 +1,5 @@
 -- Limits on the numbers of a list.
-use Rattle.std.specs.Prelude.{ℕ, Bool, true, false, ◌||◌, List, [], ◌∷◌, nat_lt}
+use Rattle.std.specs.Prelude.{ℕ, Bool, false, ◌||◌, List, [], ◌∷◌, nat_lt}
 
 -- some number of the list is above the limit
 abbrev pub above : ℕ → List ℕ → Bool

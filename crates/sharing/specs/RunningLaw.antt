@@ -1,10 +1,10 @@
 -- The running rule keeps the law of sharing.
-use Rattle.std.specs.Prelude.{◌≡◌, ℕ, zero, suc, ◌+◌, ◌-◌, ◌*◌, ◌/◌, ◌<◌, ◌≤◌, List, length, take, sum, slice_index, refl}
+use Rattle.std.specs.Prelude.{◌≡◌, ℕ, zero, suc, ◌+◌, ◌*◌, ◌/◌, ◌<◌, ◌≤◌, List, length, take, sum, slice_index}
 use Rattle.std.proofs.Common.{sym, ap, ◌∙◌, mul-add, mul-zero, mul-div_cancel, mul-le-mul_left, add-one, arith}
 use Rattle.std.proofs.Math.Nat.{zero-div}
 use Rattle.std.proofs.lemmas.List.{take_all}
-use Rattle.std.proofs.lemmas.List.Sums.{sum_by_more, sum_by-take-le}
-use Rattle.sharing.specs.Sharing.{sum_below, SharingLaw, Sharable, Near}
+use Rattle.std.proofs.lemmas.List.Sums.{sum_by_more}
+use Rattle.sharing.specs.Sharing.{sum_below, SharingLaw, Near}
 use Rattle.sharing.specs.Running.{running_part, running_share}
 use Rattle.sharing.specs.Division.{near_div, div_mono, mul_diff}
 

@@ -1,5 +1,5 @@
 -- What every sharing rule answers, and the law that it keeps.
-use Rattle.std.specs.Prelude.{◌≡◌, ℕ, zero, suc, ◌+◌, ◌*◌, ◌<◌, ◌≤◌, Bool, cond, ◌||◌, List, map, length, Ok, Err, sum, Result, ◌==◌, nat_le, nat_lt, slice_index}
+use Rattle.std.specs.Prelude.{◌≡◌, ℕ, zero, suc, ◌+◌, ◌*◌, ◌<◌, ◌≤◌, cond, ◌||◌, List, map, length, Ok, Err, sum, Result, ◌==◌, nat_le, nat_lt, slice_index}
 use Rattle.std.specs.List.{range_with_len}
 use Rattle.refusal.specs.declared.ground.Ground.TheVariants.{OutOfBounds, ListTooLong, NoWeight}
 use Rattle.refusal.specs.declared.refusal.Refusal.{Refusal}

@@ -14,7 +14,7 @@ invariant_of-self c =
     let room : old.count < length old.rows = search rules in
     let sound : Sound rows = (old.whole, old.categories, old.once) in
     let new = subst Sound (sym (take_more_set old.rows old.count row room)) (sound_push rows row fits sound) in
-    (omega arith, (new.0, (new.1, (new.2, tt))))
+    record { within = omega arith; whole = new.0; categories = new.1; once = new.2 }
 
 pub returns : goal.returns
 returns c =

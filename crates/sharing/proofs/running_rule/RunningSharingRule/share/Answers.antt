@@ -1,4 +1,4 @@
-use Rattle.std.proofs.Common.{arith, rules}
+use Rattle.std.proofs.Common.{arith}
 use Rattle.sharing.proofs.Answering.{admits}
 use Rattle.sharing.specs.RunningLaw.{part_rises}
 use Rattle.sharing.proofs.running_rule.RunningSharingRule.share.Goals as goal
