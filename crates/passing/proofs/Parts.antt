@@ -1,12 +1,11 @@
 -- What the takers get of one part.
-use Rattle.std.proofs.Common.{◌≡◌, ℕ, zero, suc, ◌+◌, ◌-◌, ◌<◌, ◌≤◌, Bool, cond, eqb, List, ◌∷◌, ◌++◌, map, length, replicate, sym, refl, ap, ◌∙◌, arith}
+use Rattle.std.proofs.Common.{◌≡◌, ℕ, zero, suc, ◌+◌, ◌-◌, ◌<◌, ◌≤◌, Bool, cond, List, ◌∷◌, ◌++◌, map, length, replicate, sym, refl, ap, ◌∙◌, arith}
 use Rattle.std.specs.List.{range_with_len}
 use Rattle.std.proofs.lemmas.List.FromFn.{length-map-range_with_len}
 use Rattle.std.proofs.lemmas.List.{replicate-append-replicate}
 use Rattle.std.proofs.lemmas.Bool.{eq-eqb, ne_eqb}
 use Rattle.sharing.specs.Sharing.{Meaning}
 use Rattle.sharing.specs.ShareOut.{in_places}
-use Rattle.passing.specs.declared.pass.Column.{Column}
 use Rattle.passing.specs.Passing.{column, of_part, most_takers}
 
 zeros : (f : ℕ → ℕ) → ((i : ℕ) → f i ≡ 0) → (a n : ℕ) → map f (range_with_len a n) ≡ replicate n 0

@@ -1,5 +1,5 @@
 -- A pass under a lawful rule: nothing is lost, and every taker is near its proportion.
-use Rattle.std.proofs.Common.{◌≡◌, ℕ, zero, suc, ◌+◌, ◌-◌, ◌*◌, ◌<◌, ◌≤◌, Bool, true, false, cond, eqb, List, [], ◌∷◌, map, length, get_or, Ok, sum, Result, sym, refl, ap, ◌∙◌, ⊎_elim, mul-le-mul_left, mul-zero, zero-mul, arith}
+use Rattle.std.proofs.Common.{◌≡◌, ℕ, zero, suc, ◌+◌, ◌-◌, ◌*◌, ◌<◌, ◌≤◌, false, cond, eqb, List, [], ◌∷◌, map, length, get_or, Ok, sum, Result, sym, refl, ap, ◌∙◌, ⊎_elim, mul-zero, zero-mul, arith}
 use Rattle.std.specs.List.{range_with_len}
 use Rattle.std.proofs.lemmas.List.Sums.{get_or-le-sum_by}
 use Rattle.std.proofs.lemmas.Bool.{cases_lt, cond-false, eq-eqb, ne_eqb}
@@ -11,7 +11,6 @@ use Rattle.sharing.specs.Counting.{sum_plus, sum_same}
 use Rattle.sharing.proofs.SharingLaws.{no_weight_no_share, no_share_above_the_amount}
 use Rattle.refusal.specs.declared.refusal.Refusal.{Refusal}
 use Rattle.passing.specs.declared.pass.Column.{Column}
-use Rattle.passing.specs.declared.pass.Pass.{Pass}
 use Rattle.sharing.specs.Limits.{above}
 use Rattle.passing.specs.Passing.{Passable, column, kw_part, largest_flow, most_takers, mwh_part, nothing_to_go_by, of_part, out_of_bounds, pass_answer, received, split, too_many_takers, worked_out}
 use Rattle.passing.specs.Proportion.{WithinThreeEuros, all_of, denominator, numerator}

@@ -1,5 +1,5 @@
 -- A pass worked out on plain numbers: an amount, a permille, and the kW and the MWh of the takers in their order.
-use Rattle.std.specs.Prelude.{◌≡◌, ℕ, ◌+◌, ◌-◌, ◌<◌, ◌≤◌, Bool, true, false, cond, not, ◌&&◌, ◌||◌, List, [], ◌∷◌, map, length, Ok, Err, sum, Result, ◌==◌, nat_lt}
+use Rattle.std.specs.Prelude.{◌≡◌, ℕ, ◌+◌, ◌-◌, ◌<◌, ◌≤◌, Bool, false, cond, not, ◌&&◌, ◌||◌, List, [], ◌∷◌, map, length, Ok, Err, sum, Result, ◌==◌, nat_lt}
 use Rattle.std.specs.List.{range_with_len}
 use Rattle.refusal.specs.declared.ground.Ground.TheVariants.{OutOfBounds, ListTooLong, NoWeight}
 use Rattle.refusal.specs.declared.refusal.Refusal.{Refusal}

@@ -17,8 +17,8 @@ pub fn share_column<R: SharingRule>(
 ) -> Result<Column, Refusal>
     requires some { 0 < length weights.now }
     requires room { length weights.now ≤ 32 }
-    requires sharable { 0 < factor → Sharable longest part weights.now }
-    ensures { result ≡ Ok (column (share rule.now) factor part weights.now) }
+    requires sharable { 0 < factor → Sharable R.longest part weights.now }
+    ensures { result ≡ Ok (column (R.share rule.now) factor part weights.now) }
 {
     if factor == 0 {
         return Ok(Column {

@@ -18,7 +18,7 @@ pub fn work_out_pass<R: SharingRule>(
     kws: &[u64],
     mwhs: &[u64],
 ) -> Result<Pass, Refusal>
-    ensures pinned { result ≡ pass_answer longest (share rule.now) amount permille kws.now mwhs.now }
+    ensures pinned { result ≡ pass_answer R.longest (R.share rule.now) amount permille kws.now mwhs.now }
     ensures nothing_is_lost { IfOk result (λ pass. sum pass.received ≡ amount) }
     ensures near_the_proportion { IfOk result (λ pass. (taker : ℕ) → taker < length kws.now → WithinThreeEuros (slice_index pass.received taker) (numerator amount permille kws.now mwhs.now taker) (denominator permille kws.now mwhs.now)) }
 {
@@ -42,8 +42,8 @@ fn divide<R: SharingRule>(
     kws: &[u64],
     mwhs: &[u64],
 ) -> Result<Pass, Refusal>
-    requires { Passable longest amount permille kws.now mwhs.now }
-    ensures { result ≡ Ok (worked_out (share rule.now) amount permille kws.now mwhs.now) }
+    requires { Passable R.longest amount permille kws.now mwhs.now }
+    ensures { result ≡ Ok (worked_out (R.share rule.now) amount permille kws.now mwhs.now) }
 {
     let rest = 1_000 - permille;
     let parts = share_out::<R, 2>(rule, amount, &[permille, rest])?;

@@ -1,4 +1,4 @@
-use Rattle.std.proofs.Common.{◌≡◌, ℕ, List, get_or, Ok, ap, arith}
+use Rattle.std.proofs.Common.{ℕ, List, get_or, Ok, ap, arith}
 use Rattle.passing.proofs.Passes.{kw_column_bounded, kw_sharable, kw_told, mwh_column_bounded, mwh_sharable, mwh_told, parts_told, pass_told}
 use Rattle.passing.proofs.work_out.divide.Goals as goal
 
@@ -13,8 +13,8 @@ share_column-requires g c =
     let sharable = kw_sharable longest share law twelve c.args.amount c.args.permille c.args.kws.now c.args.mwhs.now c.requires in
     record { some = c.requires.some; room = c.requires.room; sharable = λ h. rw part (sharable h) }
 
-pub share_column_requires_2 : goal.share_column-requires-2
-share_column_requires_2 g c =
+pub share_column-requires-2 : goal.share_column-requires-2
+share_column-requires-2 g c =
     let longest = g.R.SharingRule.longest in
     let share = g.R.SharingRule.share c.args.rule.now in
     let law = g.met.R.SharingRule.sharing c.args.rule.now in

@@ -13,8 +13,8 @@ returns-in_default c =
       unfit = λ _. refl;
     }
 
-pub slice_bounds_read_answer_end : goal.slice_bounds-read_answer-end
-slice_bounds_read_answer_end c =
+pub slice_bounds-read_answer-end : goal.slice_bounds-read_answer-end
+slice_bounds-read_answer-end c =
     let value = c.args.answer in
     let h = length_answer_le value in
     let e = (wrote_fit (answer_numbers value) (answer_bytes value) 62 c.in-Ok.size c.in-Ok.ensures.answer).1 in

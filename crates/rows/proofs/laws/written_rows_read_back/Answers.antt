@@ -13,8 +13,8 @@ returns-in_default c =
       unfit = λ _. refl;
     }
 
-pub slice_bounds_read_row_end : goal.slice_bounds-read_row-end
-slice_bounds_read_row_end c =
+pub slice_bounds-read_row-end : goal.slice_bounds-read_row-end
+slice_bounds-read_row-end c =
     let value = c.args.request in
     let h = length_row_le value in
     let e = (wrote_fit (numbers value) (row_bytes value) 62 c.in-Ok.size c.in-Ok.ensures.answer).1 in
