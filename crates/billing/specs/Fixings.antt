@@ -1,5 +1,5 @@
 -- A fixing worked out: the landed euros of a system cut over four carriers, and the tariff of each.
-use Rattle.std.specs.Prelude.{◌≡◌, ℕ, ◌+◌, ◌*◌, ◌/◌, ◌%◌, ◌<◌, Bool, cond, not, ◌||◌, List, [], ◌∷◌, map, Ok, Err, sum, Result, ◌==◌, nat_lt, slice_index}
+use Rattle.std.specs.Prelude.{◌≡◌, ℕ, ◌+◌, ◌*◌, ◌/◌, ◌%◌, ◌<◌, Bool, cond, not, ◌||◌, List, map, Ok, Err, sum, Result, ◌==◌, nat_lt, slice_index}
 use Rattle.std.specs.List.{range_with_len}
 use Rattle.refusal.specs.declared.ground.Ground.TheVariants.{OutOfBounds, VolumeUnfit, TariffTooHigh}
 use Rattle.refusal.specs.declared.refusal.Refusal.{Refusal}

@@ -119,7 +119,7 @@ pub fn work_out_fixing<R: SharingRule>(
     percentages: &[u64; CARRIERS],
     volumes: &[u64; CARRIERS],
 ) -> Result<Fixing, Refusal>
-    ensures pinned { result ≡ fixing_answer (share rule.now) landed percentages.now volumes.now }
+    ensures pinned { result ≡ fixing_answer (R.share rule.now) landed percentages.now volumes.now }
     ensures landed_euros_come_back { IfOk result (λ f. FixedWhole landed percentages.now f) }
 {
     if is_out_of_bounds(landed, percentages, volumes) {

@@ -1,5 +1,4 @@
-use Rattle.std.proofs.Common.{◌≡◌, ℕ, ◌-◌, ◌<◌, ◌++◌, map, get_or, replicate, ap, ◌∙◌, arith, rules}
-use Rattle.std.specs.List.{range_with_len}
+use Rattle.std.proofs.Common.{ℕ, get_or, arith}
 use Rattle.sharing.proofs.Placing.{placed_more}
 use Rattle.billing.specs.Fixings.{remainder_of, tariff_of}
 use Rattle.billing.proofs.FixingLaws.{fit_volume, fit_volumes}

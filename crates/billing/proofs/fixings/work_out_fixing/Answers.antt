@@ -1,4 +1,4 @@
-use Rattle.std.proofs.Common.{◌≡◌, ℕ, false, List, length, Ok, sym, ap, ◌∙◌, rules}
+use Rattle.std.proofs.Common.{◌≡◌, false, length, Ok, sym, ap, ◌∙◌, rules}
 use Rattle.sharing.specs.Limits.{above}
 use Rattle.billing.specs.declared.fixings.Fixing.{Fixing}
 use Rattle.billing.specs.Fixings.{each_carrier, fixing_out_of_bounds, largest_tariff, tariff, volumes_unfit}
