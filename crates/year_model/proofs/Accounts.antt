@@ -1,6 +1,5 @@
 -- The net costs are the accepted costs less what was taken back.
-use Rattle.std.proofs.Common.{◌≡◌, ℕ, ◌+◌, ◌-◌, ◌≤◌, List, [], ◌∷◌, sym, refl, ap, ◌∙◌, arith}
-use Rattle.year_model.specs.declared.tables.System.{System}
+use Rattle.std.proofs.Common.{◌≡◌, ℕ, ◌+◌, List, [], ◌∷◌, refl, ◌∙◌, arith}
 use Rattle.year_model.specs.Calls.{Call, Outcome, call_contract, call_cost, call_couple, call_fix, call_issue, call_open, call_pass, call_settle, call_start, call_take_back, call_tear, call_use, reply_of, state_of}
 use Rattle.year_model.specs.Laws.{CostsAreAccountedFor}
 use Rattle.year_model.specs.Makings.{Lawful, Makings}

@@ -1,5 +1,5 @@
 -- Fixing the tariffs of a system.
-use Rattle.std.specs.Prelude.{ℕ, Bool, false, cond, not, ◌&&◌, ◌||◌, List, [], ◌∷◌, Some, None, Ok, Err, count_by, Option, Result, ◌==◌, nat_lt}
+use Rattle.std.specs.Prelude.{ℕ, Bool, false, cond, not, ◌&&◌, ◌||◌, [], ◌∷◌, Some, None, Ok, Err, count_by, Option, Result, ◌==◌, nat_lt}
 use Rattle.refusal.specs.declared.ground.Ground.TheVariants.{NotSettled}
 use Rattle.refusal.specs.declared.refusal.Refusal.{Refusal}
 use Rattle.refusal.specs.Refusals.{refuse}
