@@ -24,7 +24,7 @@ pub returns-in-6 : goal.returns-in-6
 returns-in-6 c = figures_read (Six 0 0 0 0 0 0) c.args.row.now c.read_six.result c.in-6.is c.read_six.ensures
 
 -- the length of no arm is that of any figures
-not_so_long : (c : goal.In-default) (f : Figures) → length c.args.row.now / 10 ≡ length (figures_listed f) → ⊥
+not_so_long : (c : goal.In_default) (f : Figures) → length c.args.row.now / 10 ≡ length (figures_listed f) → ⊥
 not_so_long c (One a) so = omega arith
 not_so_long c (Two a b) so = omega arith
 not_so_long c (Three a b d) so = omega arith

@@ -80,7 +80,7 @@ returns-in-B c =
     record { answer = e; exactly = reads_exactly row _ e }
 
 -- the letter of no arm is that of no call
-no_letter : (c : goal.In-default-2) (q : Request) → get_or c.args.row.now 0 0 ≡ letter q → ⊥
+no_letter : (c : goal.In_default-2) (q : Request) → get_or c.args.row.now 0 0 ≡ letter q → ⊥
 no_letter c (CalendarYear a) so = omega arith
 no_letter c (Open a b) so = omega arith
 no_letter c (Couple a b d e) so = omega arith
