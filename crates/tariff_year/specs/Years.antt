@@ -1,5 +1,5 @@
 -- How the code's answers and tables speak of the model.
-use Rattle.std.specs.Prelude.{◌≡◌, ℕ, ◌≤◌, List, [], ◌∷◌, Ok, Err, vec_len, vec_capacity, Result}
+use Rattle.std.specs.Prelude.{◌≡◌, ℕ, ◌≤◌, [], ◌∷◌, Ok, Err, vec_len, vec_capacity, Result}
 use Rattle.refusal.specs.declared.refusal.Refusal.{Refusal}
 use Rattle.edition.specs.Editions.{Known, Percent}
 use Rattle.sharing.specs.Sharing.{Meaning}

@@ -7,4 +7,4 @@ use Rattle.tariff_year.proofs.year.TariffYear.new.Goals as goal
 pub invariant_of-result : goal.invariant_of-result
 invariant_of-result g c =
     let new : Tables = record { systems = c.in_ok-systems.systems; couplings = c.in_ok-couplings.couplings; contracts = c.in_ok-contracts.contracts; net = 0 } in
-    (search rules, (is_sound_begun (view new) (search rules), tt))
+    record { roomy = search rules; sound = is_sound_begun (view new) (search rules) }

@@ -18,4 +18,4 @@ invariant_of-self g c =
     let law = lawful old.calendar.year old.book longest share known percent old.calendar.from old.calendar.to g.met.R.SharingRule.twelve (g.met.R.SharingRule.sharing old.rule) (g.met.E.Edition.hundred old.edition) in
     let new : Tables = record { systems = c.push_reserved.new.self; couplings = old.tables.couplings; contracts = old.tables.contracts; net = old.tables.net } in
     let sound = is_sound_by m law (call_open c.args.level c.args.category) (view old.tables) (view new) (search rules) old.sound in
-    (search rules, (sound, tt))
+    record { roomy = search rules; sound = sound }

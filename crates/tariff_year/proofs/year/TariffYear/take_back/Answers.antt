@@ -1,4 +1,4 @@
-use Rattle.std.proofs.Common.{◌≡◌, ◌-◌, ◌≤◌, vec_items, sym, arith, rules}
+use Rattle.std.proofs.Common.{◌-◌, vec_items, sym, arith, rules}
 use Rattle.year_model.specs.Calls.{call_take_back}
 use Rattle.year_model.specs.State.{State, view, with_net, with_system}
 use Rattle.year_model.specs.Systems.{standing_at}
@@ -9,8 +9,8 @@ use Rattle.year_model.proofs.SoundFact.{is_sound_by, sound_from_fact}
 use Rattle.year_model.proofs.Lookups.{entry_from_numbered}
 use Rattle.tariff_year.proofs.year.TariffYear.take_back.Goals as goal
 
-pub index-mut-requires : goal.index-mut-requires
-index-mut-requires g c =
+pub index_mut-requires : goal.index_mut-requires
+index_mut-requires g c =
     let tables = c.args.self.now.tables in
     let there = entry_from_numbered (vec_items tables.systems) c.args.system c.in-Some.old (sym c.in-Some.ensures) in
     omega (arith, there.low, there.high, tables.systems.ok.0)
@@ -26,7 +26,7 @@ invariant_of-self g c =
     let law = lawful old.calendar.year old.book longest share known percent old.calendar.from old.calendar.to g.met.R.SharingRule.twelve (g.met.R.SharingRule.sharing old.rule) (g.met.E.Edition.hundred old.edition) in
     let later : State = with_net (with_system (view old.tables) c.args.system (standing_at c.in-Some.old (c.in-Some.old.standing - c.args.euros))) (old.tables.net - c.args.euros) in
     let sound = is_sound_by m law (call_take_back c.args.system c.args.euros) (view old.tables) later (search rules) old.sound in
-    (search rules, (sound, tt))
+    record { roomy = search rules; sound = sound }
 
 pub overflow_sub-self : goal.overflow_sub-self
 overflow_sub-self g c =
