@@ -1,5 +1,5 @@
 -- The next answer row of a run in a buffer that has room.
-use Rattle.std.proofs.Common.{◌≡◌, ℕ, ◌+◌, ◌≤◌, ltb, List, length, Ok, Err, Option, Result, sym, ap, ◌∙◌, subst}
+use Rattle.std.proofs.Common.{◌≡◌, ℕ, ◌≤◌, ltb, List, length, Ok, Err, Option, Result, sym, ap, ◌∙◌, subst}
 use Rattle.std.proofs.lemmas.Bool.{cond-false, le-ltb}
 use Rattle.refusal.specs.declared.refusal.Refusal.{Refusal}
 use Rattle.rows.specs.declared.answer.AnswerRow.{AnswerRow}

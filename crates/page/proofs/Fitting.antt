@@ -1,5 +1,5 @@
 -- Every number of an answer row fits its field.
-use Rattle.std.proofs.Common.{◌≡◌, ℕ, zero, suc, ◌+◌, ◌-◌, ◌^◌, ◌<◌, ◌≤◌, Bool, false, cond, not, ◌||◌, ltb, leb, List, [], ◌∷◌, ◌++◌, length, get_or, Some, None, Ok, Err, Option, Result, sym, refl, ◌∙◌, subst, arith}
+use Rattle.std.proofs.Common.{◌≡◌, ℕ, zero, suc, ◌+◌, ◌-◌, ◌^◌, ◌<◌, ◌≤◌, Bool, false, cond, not, ◌||◌, ltb, leb, List, [], ◌∷◌, ◌++◌, length, get_or, Some, None, Ok, Err, Option, Result, refl, arith}
 use Rattle.std.proofs.lemmas.Bool.{cond_both, ltb-false}
 use Rattle.refusal.specs.Grounds.{ground_number}
 use Rattle.refusal.specs.declared.ground.Ground.{Ground}
@@ -28,7 +28,7 @@ use Rattle.year_model.specs.Systems.{below_count, charged, coupled, coupled_with
 use Rattle.year_model.specs.declared.tables.System.{System}
 use Rattle.year_model.proofs.Outcomes.{Bounded}
 use Rattle.tariff_year.proofs.Bounds.{standing_bounded}
-use Rattle.page.specs.Answers.{asked_answered, asked_in, call_of, is_not_yet, replied, reply_row, row_answered}
+use Rattle.page.specs.Answers.{asked_answered, call_of, is_not_yet, replied, reply_row, row_answered}
 use Rattle.page.specs.Laws.{AnswersFit}
 
 pub ground_fits : (g : Ground) → ground_number g < 10 ^ 10

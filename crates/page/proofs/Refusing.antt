@@ -1,5 +1,5 @@
 -- A refused row changes nothing.
-use Rattle.std.proofs.Common.{◌≡◌, ℕ, Bool, true, false, cond, List, get_or, Some, None, Ok, Err, Option, Result, sym, refl, ap, ◌∙◌, arith}
+use Rattle.std.proofs.Common.{◌≡◌, ℕ, Bool, true, false, cond, get_or, Some, None, Ok, Err, Option, Result, sym, refl, ap, ◌∙◌, arith}
 use Rattle.refusal.specs.declared.ground.Ground.{Ground}
 use Rattle.rows.specs.Faults.{in_row, numbered}
 use Rattle.rows.specs.Judged.{row_answer}

@@ -7,7 +7,7 @@ unfolding first_asked
 returns c =
     record {
       page = c.next_request.ensures.page;
-      asked = c.year-of-first.ensures ∙ ap year_of_first c.next_request.ensures.answer;
+      asked = c.year_of_first.ensures ∙ ap year_of_first c.next_request.ensures.answer;
       left = c.next_request.ensures.left;
       counted = c.next_request.ensures.counted;
     }

@@ -10,4 +10,4 @@ invariant_of-self c =
     let old = c.args.self.now in
     let new = c.cost.new.self in
     let same = ap (λ (y : CalendarYear). y.year) c.cost.ensures.kept.0 in
-    (c.cost.ensures.kept.3 ∙ old.book, (reached_later old.year.calendar.year new.calendar.year old.year.book (call_cost c.args.system c.args.euros) (view old.year.tables) (view new.tables) old.book same c.cost.ensures.did.state old.reached, tt))
+    record { book = c.cost.ensures.kept.3 ∙ old.book; reached = reached_later old.year.calendar.year new.calendar.year old.year.book (call_cost c.args.system c.args.euros) (view old.year.tables) (view new.tables) old.book same c.cost.ensures.did.state old.reached }

@@ -10,4 +10,4 @@ invariant_of-self c =
     let old = c.args.self.now in
     let new = c.couple.new.self in
     let same = ap (λ (y : CalendarYear). y.year) c.couple.ensures.kept.0 in
-    (c.couple.ensures.kept.3 ∙ old.book, (reached_later old.year.calendar.year new.calendar.year old.year.book (call_couple c.args.upper c.args.lower c.args.kw c.args.mwh) (view old.year.tables) (view new.tables) old.book same c.couple.ensures.did.state old.reached, tt))
+    record { book = c.couple.ensures.kept.3 ∙ old.book; reached = reached_later old.year.calendar.year new.calendar.year old.year.book (call_couple c.args.upper c.args.lower c.args.kw c.args.mwh) (view old.year.tables) (view new.tables) old.book same c.couple.ensures.did.state old.reached }

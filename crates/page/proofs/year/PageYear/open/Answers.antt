@@ -10,4 +10,4 @@ invariant_of-self c =
     let old = c.args.self.now in
     let new = c.«open».new.self in
     let same = ap (λ (y : CalendarYear). y.year) c.«open».ensures.kept.0 in
-    (c.«open».ensures.kept.3 ∙ old.book, (reached_later old.year.calendar.year new.calendar.year old.year.book (call_open c.args.level c.args.category) (view old.year.tables) (view new.tables) old.book same c.«open».ensures.did.state old.reached, tt))
+    record { book = c.«open».ensures.kept.3 ∙ old.book; reached = reached_later old.year.calendar.year new.calendar.year old.year.book (call_open c.args.level c.args.category) (view old.year.tables) (view new.tables) old.book same c.«open».ensures.did.state old.reached }

@@ -10,4 +10,4 @@ invariant_of-self c =
     let old = c.args.self.now in
     let new = c.take_back.new.self in
     let same = ap (λ (y : CalendarYear). y.year) c.take_back.ensures.kept.0 in
-    (c.take_back.ensures.kept.3 ∙ old.book, (reached_later old.year.calendar.year new.calendar.year old.year.book (call_take_back c.args.system c.args.euros) (view old.year.tables) (view new.tables) old.book same c.take_back.ensures.did.state old.reached, tt))
+    record { book = c.take_back.ensures.kept.3 ∙ old.book; reached = reached_later old.year.calendar.year new.calendar.year old.year.book (call_take_back c.args.system c.args.euros) (view old.year.tables) (view new.tables) old.book same c.take_back.ensures.did.state old.reached }

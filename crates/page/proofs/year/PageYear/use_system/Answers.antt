@@ -10,4 +10,4 @@ invariant_of-self c =
     let old = c.args.self.now in
     let new = c.use_system.new.self in
     let same = ap (λ (y : CalendarYear). y.year) c.use_system.ensures.kept.0 in
-    (c.use_system.ensures.kept.3 ∙ old.book, (reached_later old.year.calendar.year new.calendar.year old.year.book (call_use c.args.system c.args.kw c.args.mwh c.args.permille) (view old.year.tables) (view new.tables) old.book same c.use_system.ensures.did.state old.reached, tt))
+    record { book = c.use_system.ensures.kept.3 ∙ old.book; reached = reached_later old.year.calendar.year new.calendar.year old.year.book (call_use c.args.system c.args.kw c.args.mwh c.args.permille) (view old.year.tables) (view new.tables) old.book same c.use_system.ensures.did.state old.reached }
