@@ -1,2 +1,10 @@
-pub mod Years
+pub mod Books
+pub mod Fixable
+pub mod Lines
+pub mod Obstacles
 pub mod Questions
+pub mod Replies
+pub mod Takings
+pub mod Told
+pub mod Turns
+pub mod Years

@@ -8,6 +8,7 @@ use Rattle.year_model.specs.Makings.{Makings}
 use Rattle.year_model.specs.State.{State}
 use Rattle.year_model.specs.Steps.{after, reply}
 use Rattle.year_model.specs.declared.tables.Tables.{Tables}
+use Rattle.tariff_year.specs.declared.fixes.Fixed.{Fixed}
 
 -- There is room for as many systems, couplings and contracts as there may be.
 abbrev pub Room : ℕ → ℕ → ℕ → Type 0
@@ -27,6 +28,11 @@ makings calendar book longest share known percent =
 abbrev pub told_number : Result ℕ Refusal → Reply
 told_number (Ok n) = Ok (n ∷ [])
 told_number (Err refusal) = Err refusal
+
+-- the reply that the tariffs of a fix are
+abbrev pub told_tariffs : Result Fixed Refusal → Reply
+told_tariffs (Ok f) = Ok f.tariffs
+told_tariffs (Err refusal) = Err refusal
 
 -- The reply and the state after are those of the model.
 pub record Did (m : Makings) (before : State) (c : Call) (told : Reply) (later : State) : Type 0 where

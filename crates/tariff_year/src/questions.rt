@@ -66,7 +66,7 @@ impl<E: Edition + Drop, R: SharingRule + Drop> TariffYear<E, R> {
 }
 
 // The entry with this number, or why there is none.
-fn found<T: Copy>(entries: &Vec<T>, number: u64) -> Result<T, Refusal>
+pub fn found<T: Copy>(entries: &Vec<T>, number: u64) -> Result<T, Refusal>
     ensures { result ≡ asked entries.now.items number }
 {
     if number > LARGEST_NUMBER {

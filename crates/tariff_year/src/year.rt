@@ -1,6 +1,6 @@
 // A tariff year and what it is made of.
 ghost use Rattle.std.specs.Prelude.{◌≡◌, IfOk};
-ghost use Rattle.year_model.specs.Sound.{IsSound};
+ghost use Rattle.year_model.specs.Sound.{CategoriesKnown, FixingsWhole, IsSound, TermsDated};
 ghost use Rattle.year_model.specs.State.{begun, view};
 ghost use Rattle.tariff_year.specs.Years.{Roomy};
 
@@ -28,6 +28,9 @@ pub struct TariffYear<E: Edition, R: SharingRule> {
     pub(crate) tables: Tables,
     ghost roomy: { Roomy tables },
     ghost sound: { IsSound (view tables) },
+    ghost dated: { TermsDated calendar.year (view tables) },
+    ghost priced: { FixingsWhole (view tables) },
+    ghost known: { CategoriesKnown (E.known edition) (view tables) },
 }
 
 impl<E: Edition + Drop, R: SharingRule + Drop> TariffYear<E, R> {

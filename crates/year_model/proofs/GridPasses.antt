@@ -106,7 +106,7 @@ systems_passed s n x f = handed_down f 1 (below s n) (renumbered s.systems n (em
 -- A pass moves euros, and what the takers receive goes down.
 module _ (s : State) (v : Grid s) (n : ℕ) (x : System) (at : Entry s.systems n x) (f : ℕ → ℕ) where
   -- What the takers receive but the consumers stands at the systems below.
-  euros_handed : MoreStanding (sum (map f (range_with_len 1 (length (below s n))))) (renumbered s.systems n (emptied x (f 0))) (systems_passed s n x f)
+  pub euros_handed : MoreStanding (sum (map f (range_with_len 1 (length (below s n))))) (renumbered s.systems n (emptied x (f 0))) (systems_passed s n x f)
   euros_handed =
       handed_down_adds f 1 (below s n) (renumbered s.systems n (emptied x (f 0))) (length s.systems) (length-set s.systems (n - 1) (emptied x (f 0))) (below_leads s v n)
 

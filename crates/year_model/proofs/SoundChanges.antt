@@ -19,20 +19,24 @@ use Rattle.year_model.proofs.Lookups.{Entry}
 use Rattle.year_model.proofs.Registers.{FixingsStay, fixings_same, register_changed, register_pushed, register_stays}
 use Rattle.year_model.proofs.TariffsFixed.{TariffsWithin}
 
+-- What is fixed stays where a system is added.
+pub fixings_opened : (xs : List System) (y : System) → FixingsStay xs (xs ++ y ∷ [])
+fixings_opened xs y =
+    record {
+      long = omega (arith, length_push xs y);
+      same = λ k h fixed. ap (λ (z : System). z.fixing) (get_or_append_left xs (y ∷ []) no_system k h);
+    }
+
 -- One more system, with nothing in it.
 pub sound_opened : (s : State) → Sound s → (level category : ℕ) → length s.systems < most_systems → Sound (with_systems s (s.systems ++ new_system level category ∷ []))
 sound_opened s v level category room =
     let xs = s.systems in
     let y = new_system level category in
     let ys = xs ++ y ∷ [] in
-    let stay : FixingsStay xs ys = record {
-      long = omega (arith, length_push xs y);
-      same = λ k h fixed. ap (λ (z : System). z.fixing) (get_or_append_left xs (y ∷ []) no_system k h);
-    } in
     sound_whole (with_systems s ys)
     (grid_opened s (grid_of s v) level category room)
     (throughout_push TariffsWithin xs y no_system v.tariffs (λ carrier. omega arith))
-    (register_stays s (register_of s v) ys s.couplings s.net stay)
+    (register_stays s (register_of s v) ys s.couplings s.net (fixings_opened xs y))
 
 -- One more coupling, from a system of lower rank to one of higher rank.
 pub sound_coupled : (s : State) → Sound s → (c : Coupling) (upper lower : System) → Entry s.systems c.upper upper → Entry s.systems c.lower lower
@@ -46,7 +50,7 @@ sound_coupled s v c upper lower at_upper at_lower room few rises kw mwh =
     (register_stays s (register_of s v) s.systems cs s.net (fixings_same s.systems))
 
 -- A system that is fixed keeps its tariffs when one system changes and that one keeps its own.
-fixings_set : (xs : List System) (n : ℕ) (x y : System) → Entry xs n x → (is_fixed x ≡ true → y.fixing ≡ x.fixing) → FixingsStay xs (renumbered xs n y)
+pub fixings_set : (xs : List System) (n : ℕ) (x y : System) → Entry xs n x → (is_fixed x ≡ true → y.fixing ≡ x.fixing) → FixingsStay xs (renumbered xs n y)
 fixings_set xs n x y at keeps =
     let inside : n - 1 < length xs = omega (arith, at.low, at.high) in
     let is = at.here no_system in

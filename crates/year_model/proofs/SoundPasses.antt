@@ -7,6 +7,7 @@ use Rattle.year_model.specs.Passes.{in_the_way, pass_state, passed, passed_in_tu
 use Rattle.year_model.specs.Sound.{Sound}
 use Rattle.year_model.specs.State.{State}
 use Rattle.year_model.proofs.Acceptance.{accepted_pass}
+use Rattle.year_model.proofs.FacesStay.{FacesStay, faces_passed, faces_same, faces_through}
 use Rattle.year_model.proofs.GridPasses.{EurosMove, euros_move, grid_pass_state, systems_passed}
 use Rattle.year_model.proofs.Grids.{grid_of, register_of, sound_whole}
 use Rattle.year_model.proofs.Lookups.{Entry}
@@ -14,7 +15,7 @@ use Rattle.year_model.proofs.Registers.{FixingsStay, register_stays}
 use Rattle.year_model.proofs.TariffsFixed.{TariffsWithin}
 
 -- Where only euros move, what is fixed stays.
-fixings_moved : (xs ys : List System) → EurosMove xs ys → FixingsStay xs ys
+pub fixings_moved : (xs ys : List System) → EurosMove xs ys → FixingsStay xs ys
 fixings_moved xs ys move = record { long = omega (arith, move.long); same = λ k h fixed. ap (λ (z : System). z.fixing) (move.same k h) }
 
 -- The state after a pass is sound.
@@ -35,3 +36,12 @@ sound_passed m law s v n = accepted_pass m s (λ o. Sound (state_of s o)) (λ _.
 pub sound_in_turn : (m : Makings) → Lawful m → (s : State) → Sound s → (ns : List ℕ) → Sound (passed_in_turn m s ns)
 sound_in_turn m law s v [] = v
 sound_in_turn m law s v (n ∷ ns) = sound_in_turn m law (state_of s (passed m s n)) (sound_passed m law s v n) ns
+
+-- Passes in turn leave all faces.
+pub faces_in_turn : (m : Makings) → Lawful m → (s : State) → Sound s → (ns : List ℕ) → FacesStay s.systems (passed_in_turn m s ns).systems
+faces_in_turn m law s v [] = faces_same s.systems
+faces_in_turn m law s v (n ∷ ns) =
+    let t = state_of s (passed m s n) in
+    faces_through s.systems t.systems (passed_in_turn m t ns).systems
+    (accepted_pass m s (λ o. FacesStay s.systems (state_of s o).systems) (λ _. faces_same s.systems) n (λ x ok. faces_passed m s (grid_of s v) n x ok.at))
+    (faces_in_turn m law t (sound_passed m law s v n) ns)

@@ -4,7 +4,7 @@ use Rattle.refusal.specs.declared.refusal.Refusal.{Refusal}
 use Rattle.year_model.specs.Calls.{Call}
 use Rattle.year_model.specs.Makings.{Lawful, Makings}
 use Rattle.year_model.specs.Runs.{accepted_costs, accepted_take_backs}
-use Rattle.year_model.specs.Sound.{all_landed, all_standing, Sound, TermsDated}
+use Rattle.year_model.specs.Sound.{CategoriesKnown, all_landed, all_standing, Sound, TermsDated}
 use Rattle.year_model.specs.State.{State}
 use Rattle.year_model.specs.Steps.{after, reply, state_after}
 
@@ -33,3 +33,7 @@ abbrev pub CostsAreAccountedFor : Type 0
 CostsAreAccountedFor =
     (m : Makings) → Lawful m → (calls : List Call) →
     accepted_costs m calls ≡ accepted_take_backs m calls + all_standing (state_after m calls).systems + all_landed (state_after m calls).systems
+
+-- After every list of calls the edition knows the category of every system.
+abbrev pub CategoriesAreKnown : Type 0
+CategoriesAreKnown = (m : Makings) → Lawful m → (calls : List Call) → CategoriesKnown m.known (state_after m calls)

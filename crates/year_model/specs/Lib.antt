@@ -1,8 +1,12 @@
 pub mod Bills
+pub mod Books
 pub mod Calls
+pub mod DraftLaws
 pub mod Fixes
+pub mod Journal
 pub mod Laws
 pub mod Makings
+pub mod PassLaws
 pub mod Passes
 pub mod Runs
 pub mod Sound

@@ -1,10 +1,12 @@
 -- What every state that calls lead to satisfies, whatever the makings: the bounds that keep every sum in range.
-use Rattle.std.specs.Prelude.{◌≡◌, ℕ, ◌+◌, ◌-◌, ◌*◌, ◌<◌, ◌≤◌, true, List, length, get_or, Some, sum_by, slice_index_or}
+use Rattle.std.specs.Prelude.{◌≡◌, ℕ, ◌+◌, ◌-◌, ◌*◌, ◌<◌, ◌≤◌, true, List, length, get_or, Some, sum_by, sum, slice_index, slice_index_or}
 use Rattle.billing.specs.Charges.{largest_charge, largest_fee, largest_kw}
-use Rattle.billing.specs.Fixings.{largest_tariff}
+use Rattle.billing.specs.declared.fixings.Fixing.{Fixing}
+use Rattle.billing.specs.Fixings.{each_carrier, largest_tariff}
 use Rattle.billing.specs.Metering.{cents_to_date, largest_line}
 use Rattle.calendar.specs.Days.{month_of}
 use Rattle.calendar.specs.Terms.{is_term}
+use Rattle.edition.specs.Editions.{Known}
 use Rattle.sharing.specs.Sharing.{largest_amount}
 use Rattle.passing.specs.Passing.{largest_flow}
 use Rattle.year_model.specs.declared.tables.Contract.{Contract}
@@ -181,3 +183,17 @@ IsSound s = ∥ Sound s ∥₁
 abbrev pub TermsDated : ℕ → State → Type 0
 TermsDated calendar s =
     (k : ℕ) → k < length s.contracts → is_term calendar (contract_at s k).first (contract_at s k).last ≡ true
+
+-- a system's tariffs times its volumes, and its remainders
+abbrev pub fixing_euros : Fixing → ℕ
+fixing_euros f = sum (each_carrier (λ i. slice_index f.tariffs i * slice_index f.volumes i + slice_index f.remainders i))
+
+-- They are the landed euros of a fixed system, in ten-thousandths.
+abbrev pub FixingsWhole : State → Type 0
+FixingsWhole s =
+    (k : ℕ) → k < length s.systems → (f : Fixing) → (slice_index_or s.systems k no_system).fixing ≡ Some f →
+    fixing_euros f ≡ 10000 * (slice_index_or s.systems k no_system).landed
+
+-- The edition knows the category of every system.
+abbrev pub CategoriesKnown : Known → State → Type 0
+CategoriesKnown known s = (k : ℕ) → k < length s.systems → known (slice_index_or s.systems k no_system).category ≡ true

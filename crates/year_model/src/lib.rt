@@ -5,7 +5,7 @@ mod laws;
 mod tables;
 
 pub use laws::{
-    calls_keep_terms_in_the_year, calls_keep_the_year_sound, costs_are_accounted_for,
-    refusals_change_nothing,
+    books_balance, calls_keep_terms_in_the_year, calls_keep_the_year_sound, categories_are_known,
+    costs_are_accounted_for, drafts_are_spent_once, refusals_change_nothing,
 };
 pub use tables::{Cents, Contract, Coupling, Started, System, Tables};

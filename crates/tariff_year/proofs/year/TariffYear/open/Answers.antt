@@ -3,8 +3,7 @@ use Rattle.year_model.specs.Calls.{call_open}
 use Rattle.year_model.specs.State.{view}
 use Rattle.year_model.specs.declared.tables.Tables.{Tables}
 use Rattle.tariff_year.specs.Years.{makings}
-use Rattle.year_model.proofs.SoundFact.{is_sound_by}
-use Rattle.tariff_year.proofs.Making.{lawful}
+use Rattle.tariff_year.proofs.Making.{kept_by, lawful}
 use Rattle.tariff_year.proofs.year.TariffYear.open.Goals as goal
 
 pub invariant_of-self : goal.invariant_of-self
@@ -17,5 +16,5 @@ invariant_of-self g c =
     let m = makings old.calendar.year old.book longest share known percent in
     let law = lawful old.calendar.year old.book longest share known percent old.calendar.from old.calendar.to g.met.R.SharingRule.twelve (g.met.R.SharingRule.sharing old.rule) (g.met.E.Edition.hundred old.edition) in
     let new : Tables = record { systems = c.push_reserved.new.self; couplings = old.tables.couplings; contracts = old.tables.contracts; net = old.tables.net } in
-    let sound = is_sound_by m law (call_open c.args.level c.args.category) (view old.tables) (view new) (search rules) old.sound in
-    record { roomy = search rules; sound = sound }
+    let kept = kept_by m law (call_open c.args.level c.args.category) (view old.tables) (view new) (search rules) old.sound old.dated old.priced old.known in
+    record { roomy = search rules; sound = kept.0; dated = kept.1; priced = kept.2; known = kept.3 }

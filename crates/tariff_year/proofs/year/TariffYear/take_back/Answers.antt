@@ -3,9 +3,9 @@ use Rattle.year_model.specs.Calls.{call_take_back}
 use Rattle.year_model.specs.State.{State, view, with_net, with_system}
 use Rattle.year_model.specs.Systems.{standing_at}
 use Rattle.tariff_year.specs.Years.{makings}
-use Rattle.tariff_year.proofs.Making.{lawful}
+use Rattle.tariff_year.proofs.Making.{kept_by, lawful}
 use Rattle.tariff_year.proofs.Bounds.{standing_bounded}
-use Rattle.year_model.proofs.SoundFact.{is_sound_by, sound_from_fact}
+use Rattle.year_model.proofs.SoundFact.{sound_from_fact}
 use Rattle.year_model.proofs.Lookups.{entry_from_numbered}
 use Rattle.tariff_year.proofs.year.TariffYear.take_back.Goals as goal
 
@@ -25,8 +25,8 @@ invariant_of-self g c =
     let m = makings old.calendar.year old.book longest share known percent in
     let law = lawful old.calendar.year old.book longest share known percent old.calendar.from old.calendar.to g.met.R.SharingRule.twelve (g.met.R.SharingRule.sharing old.rule) (g.met.E.Edition.hundred old.edition) in
     let later : State = with_net (with_system (view old.tables) c.args.system (standing_at c.in-Some.old (c.in-Some.old.standing - c.args.euros))) (old.tables.net - c.args.euros) in
-    let sound = is_sound_by m law (call_take_back c.args.system c.args.euros) (view old.tables) later (search rules) old.sound in
-    record { roomy = search rules; sound = sound }
+    let kept = kept_by m law (call_take_back c.args.system c.args.euros) (view old.tables) later (search rules) old.sound old.dated old.priced old.known in
+    record { roomy = search rules; sound = kept.0; dated = kept.1; priced = kept.2; known = kept.3 }
 
 pub overflow_sub-self : goal.overflow_sub-self
 overflow_sub-self g c =

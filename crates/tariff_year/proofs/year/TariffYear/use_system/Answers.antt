@@ -3,8 +3,7 @@ use Rattle.year_model.specs.Calls.{call_use}
 use Rattle.year_model.specs.State.{State, view, with_system}
 use Rattle.year_model.specs.Systems.{with_use}
 use Rattle.tariff_year.specs.Years.{makings}
-use Rattle.year_model.proofs.SoundFact.{is_sound_by}
-use Rattle.tariff_year.proofs.Making.{lawful}
+use Rattle.tariff_year.proofs.Making.{kept_by, lawful}
 use Rattle.year_model.proofs.Lookups.{entry_from_numbered}
 use Rattle.tariff_year.proofs.year.TariffYear.use_system.Goals as goal
 
@@ -24,5 +23,5 @@ invariant_of-self g c =
     let m = makings old.calendar.year old.book longest share known percent in
     let law = lawful old.calendar.year old.book longest share known percent old.calendar.from old.calendar.to g.met.R.SharingRule.twelve (g.met.R.SharingRule.sharing old.rule) (g.met.E.Edition.hundred old.edition) in
     let later : State = with_system (view old.tables) c.args.system (with_use c.in-Some.old c.args.kw c.args.mwh c.args.permille) in
-    let sound = is_sound_by m law (call_use c.args.system c.args.kw c.args.mwh c.args.permille) (view old.tables) later (search rules) old.sound in
-    record { roomy = search rules; sound = sound }
+    let kept = kept_by m law (call_use c.args.system c.args.kw c.args.mwh c.args.permille) (view old.tables) later (search rules) old.sound old.dated old.priced old.known in
+    record { roomy = search rules; sound = kept.0; dated = kept.1; priced = kept.2; known = kept.3 }

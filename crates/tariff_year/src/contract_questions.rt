@@ -1,0 +1,137 @@
+// What the year tells of its contracts when it is asked.
+ghost use Rattle.std.specs.Prelude.{◌≡◌, ◌≤◌};
+ghost use Rattle.billing.specs.Fixings.{largest_number, largest_tariff};
+ghost use Rattle.billing.specs.Metering.{carry_to_date, cents_to_date};
+ghost use Rattle.year_model.specs.Bills.{plain_rate};
+ghost use Rattle.year_model.specs.State.{view};
+ghost use Rattle.tariff_year.specs.Lines.{Billable};
+ghost use Rattle.tariff_year.specs.Questions.{asked, contract_month, metering_asked, month_asked, portions_asked};
+ghost use Rattle.tariff_year.specs.Years.{makings};
+
+use crate::bills::{KWH, KWMAX, tariff};
+use crate::questions::found;
+use crate::systems::LARGEST_NUMBER;
+use crate::year::TariffYear;
+use billing::{Rate, metered_line};
+use edition::Edition;
+use refusal::{Ground, Refusal};
+use sharing::{SharingRule, share_out};
+use year_model::Contract;
+
+// A carrier's volume issued to date, and the rest that is carried on, in parts of a cent.
+#[derive(Clone, Copy)]
+pub struct Metered {
+    pub volume: u64,
+    pub carry: u64,
+}
+
+// Both metered carriers of a contract.
+#[derive(Clone, Copy)]
+pub struct Metering {
+    pub kwmax: Metered,
+    pub kwh: Metered,
+}
+
+// Some days of a month, and their share of its portion, in cents.
+#[derive(Clone, Copy)]
+pub struct DayShare {
+    pub days: u64,
+    pub cents: u64,
+}
+
+// A month before, within and after the term of a contract.
+#[derive(Clone, Copy)]
+pub struct ContractMonth {
+    pub before: DayShare,
+    pub within: DayShare,
+    pub after: DayShare,
+}
+
+impl<E: Edition + Drop, R: SharingRule + Drop> TariffYear<E, R> {
+    // The record of a contract.
+    pub fn contract_record(&self, number: u64) -> Result<Contract, Refusal>
+        ensures { result ≡ asked (view self.now.tables).contracts number }
+    {
+        found(&self.tables.contracts, number)
+    }
+
+    // The twelve portions of the yearly charge of a contract, January first.
+    pub fn portions(&self, number: u64) -> Result<[u64; 12], Refusal>
+        ensures { result ≡ portions_asked (R.SharingRule.share self.now.rule) (view self.now.tables) number }
+    {
+        let contract = self.contract_record(number)?;
+        Ok(self.portions_of(contract.yearly))
+    }
+
+    // What is metered of a contract.
+    pub fn metering(&self, number: u64) -> Result<Metering, Refusal>
+        ensures { result ≡ metering_asked (view self.now.tables) number }
+    {
+        let contract = self.contract_record(number)?;
+        let by_kwmax = tariff(&self.tables, contract, KWMAX);
+        let by_kwh = tariff(&self.tables, contract, KWH);
+        let kwh = contract.reading - contract.opening;
+        Ok(Metering {
+            kwmax: Metered {
+                volume: contract.kwmax,
+                carry: carried(by_kwmax, contract.kwmax, contract.cents.kwmax),
+            },
+            kwh: Metered {
+                volume: kwh,
+                carry: carried(by_kwh, kwh, contract.cents.kwh),
+            },
+        })
+    }
+
+    // A month of a contract: its days, and how its portion is shared over them.
+    pub fn month_of_contract(&self, number: u64, month: u64) -> Result<ContractMonth, Refusal>
+        ensures { result ≡ month_asked (makings self.now.calendar.year self.now.book R.SharingRule.longest (R.SharingRule.share self.now.rule) (E.Edition.known self.now.edition) (E.Edition.percent self.now.edition)) (view self.now.tables) number month }
+    {
+        if number > LARGEST_NUMBER {
+            return Err(Refusal::at(Ground::OutOfBounds, 1));
+        }
+        if month < 1 || month > 12 {
+            return Err(Refusal::at(Ground::OutOfBounds, 2));
+        }
+        let contract = self.contract_record(number)?;
+        Ok(self.shared_month(contract, month))
+    }
+
+    fn shared_month(&self, contract: Contract, month: u64) -> ContractMonth
+        requires { Billable self.now.calendar.year contract month }
+        ensures { result ≡ contract_month (makings self.now.calendar.year self.now.book R.SharingRule.longest (R.SharingRule.share self.now.rule) (E.Edition.known self.now.edition) (E.Edition.percent self.now.edition)) month contract }
+    {
+        let portions = self.portions_of(contract.yearly);
+        let portion = portions[(month - 1) as usize];
+        let (before, within, after) = self
+            .calendar
+            .month_days(contract.first, contract.last, month)
+            .unwrap();
+        let cents = share_out::<R, 3>(&self.rule, portion, &[before, within, after]).unwrap();
+        ContractMonth {
+            before: DayShare {
+                days: before,
+                cents: cents[0],
+            },
+            within: DayShare {
+                days: within,
+                cents: cents[1],
+            },
+            after: DayShare {
+                days: after,
+                cents: cents[2],
+            },
+        }
+    }
+}
+
+// What is carried on of a volume where all cents due are issued.
+fn carried(tariff: u64, volume: u64, issued: u64) -> u64
+    requires bounded { (tariff ≤ largest_tariff) × (volume ≤ largest_number) }
+    requires due { issued ≡ cents_to_date tariff plain_rate volume }
+    ensures { result ≡ carry_to_date tariff plain_rate volume }
+{
+    metered_line(tariff, Rate::PLAIN, volume, issued)
+        .unwrap()
+        .carry
+}

@@ -1,0 +1,118 @@
+// Fixing the tariffs of a system.
+ghost use Rattle.std.specs.Prelude.{◌≡◌, ◌&&◌, count_by, ◌==◌, slice_index};
+ghost use Rattle.year_model.specs.Calls.{call_fix};
+ghost use Rattle.year_model.specs.Fixes.{is_unfixed};
+ghost use Rattle.year_model.specs.State.{numbered, view};
+ghost use Rattle.tariff_year.specs.Fixable.{Fixable};
+ghost use Rattle.tariff_year.specs.Questions.{asked_fixing};
+ghost use Rattle.tariff_year.specs.Years.{Did, makings, told_tariffs};
+
+use crate::look_up::entry;
+use crate::questions::found;
+use crate::systems::LARGEST_NUMBER;
+use crate::year::TariffYear;
+use billing::{CARRIERS, Fixing, work_out_fixing};
+use edition::{Edition, percentages};
+use refusal::{Ground, Refusal};
+use sharing::SharingRule;
+use year_model::{Coupling, System};
+
+// What a fix answers: the tariffs of the four carriers, in ten-thousandths of a euro.
+#[derive(Clone, Copy)]
+pub struct Fixed {
+    pub tariffs: [u64; CARRIERS],
+}
+
+impl<E: Edition + Drop, R: SharingRule + Drop> TariffYear<E, R> {
+    // Cuts the landed euros of a system over the four carriers, by their volumes; answers the tariffs.
+    pub fn fix(&mut self, system: u64, volumes: [u64; CARRIERS]) -> Result<Fixed, Refusal>
+        ensures did { Did (makings self.old.calendar.year self.old.book R.SharingRule.longest (R.SharingRule.share self.old.rule) (E.Edition.known self.old.edition) (E.Edition.percent self.old.edition)) (view self.old.tables) (call_fix system (slice_index volumes 0) (slice_index volumes 1) (slice_index volumes 2) (slice_index volumes 3)) (told_tariffs result) (view self.new.tables) }
+        ensures kept { (self.new.calendar ≡ self.old.calendar) × (self.new.edition ≡ self.old.edition) × (self.new.rule ≡ self.old.rule) × (self.new.book ≡ self.old.book) }
+    {
+        if system > LARGEST_NUMBER {
+            return Err(Refusal::at(Ground::OutOfBounds, 1));
+        }
+        if volumes[0] > LARGEST_NUMBER {
+            return Err(Refusal::at(Ground::OutOfBounds, 2));
+        }
+        if volumes[1] > LARGEST_NUMBER {
+            return Err(Refusal::at(Ground::OutOfBounds, 3));
+        }
+        if volumes[2] > LARGEST_NUMBER {
+            return Err(Refusal::at(Ground::OutOfBounds, 4));
+        }
+        if volumes[3] > LARGEST_NUMBER {
+            return Err(Refusal::at(Ground::OutOfBounds, 5));
+        }
+        let Some(old) = entry(&self.tables.systems, system) else {
+            return Err(Refusal::of(Ground::NotThere));
+        };
+        if old.fixing.is_some() {
+            return Err(Refusal::of(Ground::SystemFixed));
+        }
+        let above = count_unfixed_above(&self.tables.systems, &self.tables.couplings, system);
+        if old.standing > 0 || above > 0 {
+            return Err(Refusal::at(Ground::NotSettled, system));
+        }
+        self.fix_settled(system, old, &volumes)
+    }
+
+    // Fixes a system that is settled, as far as edition and volumes allow.
+    fn fix_settled(
+        &mut self,
+        system: u64,
+        old: System,
+        volumes: &[u64; CARRIERS],
+    ) -> Result<Fixed, Refusal>
+        requires { Fixable (view self.old.tables) system volumes.now old }
+        ensures did { Did (makings self.old.calendar.year self.old.book R.SharingRule.longest (R.SharingRule.share self.old.rule) (E.Edition.known self.old.edition) (E.Edition.percent self.old.edition)) (view self.old.tables) (call_fix system (slice_index volumes.now 0) (slice_index volumes.now 1) (slice_index volumes.now 2) (slice_index volumes.now 3)) (told_tariffs result) (view self.new.tables) }
+        ensures kept { (self.new.calendar ≡ self.old.calendar) × (self.new.edition ≡ self.old.edition) × (self.new.rule ≡ self.old.rule) × (self.new.book ≡ self.old.book) }
+    {
+        let row = percentages(&self.edition, old.category)?;
+        let fixing = work_out_fixing(&self.rule, old.landed, &row, volumes)?;
+        self.tables.systems[(system - 1) as usize] = System {
+            fixing: Some(fixing),
+            ..old
+        };
+        let tariffs = fixing.tariffs;
+        Ok(Fixed { tariffs })
+    }
+
+    // The volumes, allotments, tariffs and remainders of a fixed system.
+    pub fn fixing(&self, system: u64) -> Result<Fixing, Refusal>
+        ensures { result ≡ asked_fixing (view self.now.tables).systems system }
+    {
+        match found(&self.tables.systems, system)?.fixing {
+            Some(fixing) => Ok(fixing),
+            None => Err(Refusal::of(Ground::SystemNotFixed)),
+        }
+    }
+}
+
+// How many couplings lead to this system from one that is not fixed.
+fn count_unfixed_above(systems: &Vec<System>, couplings: &[Coupling], lower: u64) -> u64
+    ensures { result ≡ count_by (λ c. (c.lower == lower) && is_unfixed (numbered systems.now.items c.upper)) couplings.now }
+{
+    let mut count = 0;
+    for coupling in couplings {
+        if leads_from_unfixed(systems, *coupling, lower) {
+            count += 1;
+        }
+    }
+    count
+}
+
+fn leads_from_unfixed(systems: &Vec<System>, coupling: Coupling, lower: u64) -> bool
+    ensures { result ≡ (coupling.lower == lower && is_unfixed (numbered systems.now.items coupling.upper)) }
+{
+    coupling.lower == lower && is_unfixed(entry(systems, coupling.upper))
+}
+
+fn is_unfixed(system: Option<System>) -> bool
+    ensures { result ≡ is_unfixed system }
+{
+    match system {
+        Some(system) => system.fixing.is_none(),
+        None => false,
+    }
+}
