@@ -11,7 +11,7 @@ use Rattle.page.specs.Answers.{row_answered, state_behind}
 -- A refused row leaves the year as it was, and its answer row has its number.
 abbrev pub RefusedRowsChangeNothing : Type 0
 RefusedRowsChangeNothing =
-    (m : Makings) (s : State) (number : ℕ) (row : List ℕ) (ground : Ground) (told place : ℕ) → row_answered m s number row ≡ Refused ground told place → (state_behind m s number row ≡ s) × (told ≡ number)
+    (m : Makings) (s : State) (number : ℕ) (row : List ℕ) (why : Ground) (told place : ℕ) → row_answered m s number row ≡ Refused why told place → (state_behind m s number row ≡ s) × (told ≡ number)
 
 -- Every number of an answer row fits its field, where the year is sound and the row's number has at most ten digits.
 abbrev pub AnswersFit : Type 0
