@@ -8,7 +8,7 @@ use Rattle.year_model.specs.Makings.{Makings}
 use Rattle.year_model.specs.Passes.{emptied, pass_state, receives}
 use Rattle.year_model.specs.Sound.{no_system}
 use Rattle.year_model.specs.State.{State, is_fixed, renumbered}
-use Rattle.year_model.proofs.Entries.{Throughout, same_after_set}
+use Rattle.year_model.proofs.Entries.{same_after_set}
 use Rattle.year_model.proofs.GridPasses.{euros_handed, systems_passed}
 use Rattle.year_model.proofs.Grids.{Grid}
 use Rattle.year_model.proofs.HandingDown.{as_many, same_but_standing}
@@ -63,13 +63,9 @@ faces_passed m s v n x at =
 pub fixed_landed : (x : System) (f : Fixing) → x.fixing ≡ Some f → (face x).landed ≡ x.landed
 fixed_landed x f e = cond-true (is_fixed x) x.landed 0 (ap (λ (o : Option Fixing). is_some o) e)
 
--- Systems with the same faces are priced alike.
-pub priced_stays : (xs ys : List System) → FacesStay xs ys → Throughout Priced xs no_system → Throughout Priced ys no_system
-priced_stays xs ys stay priced k h f e =
-    let x = get_or xs k no_system in
-    let y = get_or ys k no_system in
-    let inside : k < length xs = omega (arith, stay.long) in
-    let same = stay.same k inside in
+-- Systems with the same face are priced alike.
+pub priced_alike : (x y : System) → face y ≡ face x → Priced x → Priced y
+priced_alike x y same priced f e =
     let fixed : x.fixing ≡ Some f = sym (ap (λ (z : System). z.fixing) same) ∙ e in
     let landed : y.landed ≡ x.landed = sym (fixed_landed y f e) ∙ ap (λ (z : System). z.landed) same ∙ fixed_landed x f fixed in
-    omega (arith, priced k inside f fixed)
+    omega (arith, priced f fixed)

@@ -1,5 +1,5 @@
 -- What holds of every system, whatever stands there, is kept by every call.
-use Rattle.std.proofs.Common.{◌≡◌, ℕ, ◌+◌, ◌-◌, ◌*◌, ◌<◌, Bool, true, length, List, [], ◌∷◌, get_or, Some, sym, refl, ap, ◌∙◌, subst, arith}
+use Rattle.std.proofs.Common.{◌≡◌, ℕ, ◌+◌, ◌-◌, ◌*◌, ◌<◌, Bool, true, length, List, [], ◌∷◌, get_or, sym, refl, ap, ◌∙◌, subst, arith}
 use Rattle.billing.specs.declared.fixings.Fixing.{Fixing}
 use Rattle.year_model.specs.declared.tables.System.{System}
 use Rattle.year_model.specs.Calls.{Call, Outcome, call_contract, call_cost, call_couple, call_fix, call_issue, call_open, call_pass, call_settle, call_start, call_take_back, call_tear, call_use, state_of}
@@ -12,7 +12,7 @@ use Rattle.year_model.specs.Steps.{after, outcome}
 use Rattle.year_model.specs.Systems.{new_system, standing_at, with_use}
 use Rattle.year_model.proofs.Acceptance.{Fixes, accepted_contract, accepted_cost, accepted_couple, accepted_fix, accepted_issue, accepted_open, accepted_pass, accepted_settle, accepted_start, accepted_take_back, accepted_tear, accepted_use}
 use Rattle.year_model.proofs.Entries.{Throughout, throughout_push, throughout_set}
-use Rattle.year_model.proofs.FacesStay.{FacesStay, face, faces_passed, fixed_landed}
+use Rattle.year_model.proofs.FacesStay.{FacesStay, face, faces_passed, priced_alike}
 use Rattle.year_model.proofs.Grids.{grid_of}
 use Rattle.year_model.proofs.Lookups.{Entry}
 use Rattle.year_model.proofs.SoundPasses.{faces_in_turn}
@@ -87,10 +87,7 @@ priced_by_systems : (m : Makings) → Lawful m → KeptBySystems m Priced
 priced_by_systems m law =
     record {
       opens = λ level category known f e. let z : ◌≡◌ {A = ℕ} 0 1 = cc in absurd (omega arith);
-      stays = λ x y same priced f e.
-          let fixed : x.fixing ≡ Some f = sym (ap (λ (z : System). z.fixing) same) ∙ e in
-          let landed : y.landed ≡ x.landed = sym (fixed_landed y f e) ∙ ap (λ (z : System). z.landed) same ∙ fixed_landed x f fixed in
-          omega (arith, priced f fixed);
+      stays = priced_alike;
       fixes = λ s n volumes x f ok priced g e.
           let same : f ≡ g = cc in
           subst (λ (h : Fixing). fixing_euros h ≡ 10000 * x.landed) same (fixing_whole m law x.landed x.category volumes f ok.told).whole;

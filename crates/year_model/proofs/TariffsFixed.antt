@@ -12,7 +12,7 @@ use Rattle.year_model.specs.declared.tables.System.{System}
 use Rattle.year_model.specs.Bills.{fixing_tariff}
 use Rattle.year_model.specs.Fixes.{with_fixing}
 use Rattle.year_model.specs.Makings.{Lawful, Makings}
-use Rattle.year_model.specs.Sound.{FixingsWhole, TariffsFit, fixing_euros, no_system}
+use Rattle.year_model.specs.Sound.{TariffsFit, fixing_euros, no_system}
 use Rattle.year_model.specs.State.{State}
 use Rattle.year_model.proofs.Lookups.{Entry}
 
@@ -65,10 +65,6 @@ fixing_whole m law landed category volumes f told =
     let bounds = within_bounds landed (percentages m.percent category) volumes met.bounded in
     subst (FixedWhole landed (percentages m.percent category)) met.is
     (fixed_whole m.longest m.share law.sharing law.twelve landed (percentages m.percent category) volumes bounds.0 refl bounds.1 met.fit)
-
--- The system with a number is priced.
-pub entry_priced : (s : State) → FixingsWhole s → (n : ℕ) (x : System) → Entry s.systems n x → Priced x
-entry_priced s whole n x at = subst Priced (at.here no_system) (whole (n - 1) (omega (arith, at.low, at.high)))
 
 -- The system with a number has tariffs within bounds.
 pub entry_tariffs : (s : State) → TariffsFit s → (n : ℕ) (x : System) → Entry s.systems n x → TariffsWithin x
