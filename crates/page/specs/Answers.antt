@@ -19,7 +19,7 @@ use Rattle.year_model.specs.Makings.{Makings}
 use Rattle.year_model.specs.State.{State}
 use Rattle.year_model.specs.Steps.{after, reply}
 
--- The letters P, Z, F, N and B are unknown as long as the year does not have their calls.
+-- The letters P, Z, F, N and B are unknown as long as a page does not make their calls.
 abbrev pub is_not_yet : ℕ → Bool
 is_not_yet letter = letter == 80 || (letter == 90 || (letter == 70 || (letter == 78 || letter == 66)))
 
@@ -27,7 +27,7 @@ is_not_yet letter = letter == 80 || (letter == 90 || (letter == 70 || (letter ==
 abbrev pub asked_in : ℕ → List ℕ → Result Request (Numbered RowFault)
 asked_in number row = cond (is_not_yet (slice_index row 0)) (Err (numbered number Letter)) (request_answer number row)
 
--- The call of the year that a request asks for, if the year has it; a calendar year is no call of the year.
+-- The call of the year that a request asks for, if a page makes it; a calendar year is no call of the year.
 abbrev pub call_of : Request → Option Call
 call_of (CalendarYear year) = None
 call_of (Open level category) = Some (call_open level category)
