@@ -4,7 +4,7 @@
 mod ground;
 mod refusal;
 
-pub use ground::{Ground, numbers_name_grounds};
+pub use ground::{Ground, UnknownGround, numbers_name_grounds};
 pub use refusal::Refusal;
 
 #[cfg(test)]
