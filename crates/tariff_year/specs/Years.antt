@@ -1,13 +1,14 @@
 -- How the code's answers and tables speak of the model.
 use Rattle.std.specs.Prelude.{◌≡◌, ℕ, ◌≤◌, [], ◌∷◌, Ok, Err, vec_len, vec_capacity, Result}
 use Rattle.refusal.specs.declared.refusal.Refusal.{Refusal}
-use Rattle.edition.specs.Editions.{Known, Percent}
-use Rattle.sharing.specs.Sharing.{Meaning}
+use Rattle.edition.specs.declared.edition.Edition.{Ghosts as EditionMeant}
+use Rattle.sharing.specs.declared.rule.SharingRule.{Ghosts as RuleMeant}
 use Rattle.year_model.specs.Calls.{Call, Reply}
 use Rattle.year_model.specs.Makings.{Makings}
 use Rattle.year_model.specs.State.{State}
 use Rattle.year_model.specs.Steps.{after, reply}
 use Rattle.year_model.specs.declared.tables.Tables.{Tables}
+use Rattle.tariff_year.specs.declared.basis.Basis.{Basis}
 use Rattle.tariff_year.specs.declared.fixes.Fixed.{Fixed}
 
 -- There is room for as many systems, couplings and contracts as there may be.
@@ -19,10 +20,17 @@ Roomy t =
     Room (vec_len t.systems) (vec_capacity t.systems) 64 × Room (vec_len t.couplings) (vec_capacity t.couplings) 256
     × Room (vec_len t.contracts) (vec_capacity t.contracts) 256
 
--- what a year is made of
-abbrev pub makings : ℕ → ℕ → ℕ → Meaning → Known → Percent → Makings
-makings calendar book longest share known percent =
-    record { calendar = calendar; book = book; longest = longest; share = share; known = known; percent = percent }
+-- what a year is made of, as its edition and its rule mean it
+abbrev pub makings : {E R : Type 0} → EditionMeant E → RuleMeant R → Basis E R → Makings
+makings edition rule basis =
+    record {
+      calendar = basis.calendar.year;
+      book = basis.book;
+      longest = rule.longest;
+      share = rule.share basis.rule;
+      known = edition.known basis.edition;
+      percent = edition.percent basis.edition;
+    }
 
 -- the reply that a number answered is
 abbrev pub told_number : Result ℕ Refusal → Reply

@@ -57,7 +57,7 @@ impl<E: Edition + Drop, R: SharingRule + Drop> TariffYear<E, R> {
 
     // The twelve portions of the yearly charge of a contract, January first.
     pub fn portions(&self, number: u64) -> Result<[u64; 12], Refusal>
-        ensures { result ≡ portions_asked (R.SharingRule.share self.now.rule) (view self.now.tables) number }
+        ensures { result ≡ portions_asked (R.SharingRule.share self.now.basis.rule) (view self.now.tables) number }
     {
         let contract = self.contract_record(number)?;
         Ok(self.portions_of(contract.yearly))
@@ -85,7 +85,7 @@ impl<E: Edition + Drop, R: SharingRule + Drop> TariffYear<E, R> {
 
     // A month of a contract: its days, and how its portion is shared over them.
     pub fn month_of_contract(&self, number: u64, month: u64) -> Result<ContractMonth, Refusal>
-        ensures { result ≡ month_asked (makings self.now.calendar.year self.now.book R.SharingRule.longest (R.SharingRule.share self.now.rule) (E.Edition.known self.now.edition) (E.Edition.percent self.now.edition)) (view self.now.tables) number month }
+        ensures { result ≡ month_asked (makings E.Edition R.SharingRule self.now.basis) (view self.now.tables) number month }
     {
         if number > LARGEST_NUMBER {
             return Err(Refusal::at(Ground::OutOfBounds, 1));
@@ -98,16 +98,17 @@ impl<E: Edition + Drop, R: SharingRule + Drop> TariffYear<E, R> {
     }
 
     fn shared_month(&self, contract: Contract, month: u64) -> ContractMonth
-        requires { Billable self.now.calendar.year contract month }
-        ensures { result ≡ contract_month (makings self.now.calendar.year self.now.book R.SharingRule.longest (R.SharingRule.share self.now.rule) (E.Edition.known self.now.edition) (E.Edition.percent self.now.edition)) month contract }
+        requires { Billable self.now.basis.calendar.year contract month }
+        ensures { result ≡ contract_month (makings E.Edition R.SharingRule self.now.basis) month contract }
     {
         let portions = self.portions_of(contract.yearly);
         let portion = portions[(month - 1) as usize];
         let (before, within, after) = self
+            .basis
             .calendar
             .month_days(contract.first, contract.last, month)
             .unwrap();
-        let cents = share_out::<R, 3>(&self.rule, portion, &[before, within, after]).unwrap();
+        let cents = share_out::<R, 3>(&self.basis.rule, portion, &[before, within, after]).unwrap();
         ContractMonth {
             before: DayShare {
                 days: before,

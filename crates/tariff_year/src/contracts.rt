@@ -40,8 +40,8 @@ impl<E: Edition + Drop, R: SharingRule + Drop> TariffYear<E, R> {
         last: u64,
         reading: u64,
     ) -> Result<u64, Refusal>
-        ensures did { Did (makings self.old.calendar.year self.old.book R.SharingRule.longest (R.SharingRule.share self.old.rule) (E.Edition.known self.old.edition) (E.Edition.percent self.old.edition)) (view self.old.tables) (call_contract system kw fee first last reading) (told_number result) (view self.new.tables) }
-        ensures kept { (self.new.calendar ≡ self.old.calendar) × (self.new.edition ≡ self.old.edition) × (self.new.rule ≡ self.old.rule) × (self.new.book ≡ self.old.book) }
+        ensures did { Did (makings E.Edition R.SharingRule self.old.basis) (view self.old.tables) (call_contract system kw fee first last reading) (told_number result) (view self.new.tables) }
+        ensures kept { self.new.basis ≡ self.old.basis }
     {
         if system > LARGEST_NUMBER {
             return Err(Refusal::at(Ground::OutOfBounds, 1));
@@ -52,10 +52,10 @@ impl<E: Edition + Drop, R: SharingRule + Drop> TariffYear<E, R> {
         if fee > LARGEST_FEE {
             return Err(Refusal::at(Ground::OutOfBounds, 3));
         }
-        if !self.calendar.is_day(first) {
+        if !self.basis.calendar.is_day(first) {
             return Err(Refusal::at(Ground::OutOfBounds, 4));
         }
-        if !self.calendar.is_day(last) || last < first {
+        if !self.basis.calendar.is_day(last) || last < first {
             return Err(Refusal::at(Ground::OutOfBounds, 5));
         }
         if reading > LARGEST_NUMBER {
@@ -96,9 +96,9 @@ impl<E: Edition + Drop, R: SharingRule + Drop> TariffYear<E, R> {
 
     // A draft of the next month's bill of a contract, with the month's kWmax and reading.
     pub fn start(&mut self, contract: u64, kwmax: u64, reading: u64) -> Result<Draft, Refusal>
-        ensures did { Did (makings self.old.calendar.year self.old.book R.SharingRule.longest (R.SharingRule.share self.old.rule) (E.Edition.known self.old.edition) (E.Edition.percent self.old.edition)) (view self.old.tables) (call_start contract kwmax reading) (told_draft result) (view self.new.tables) }
-        ensures kept { (self.new.calendar ≡ self.old.calendar) × (self.new.edition ≡ self.old.edition) × (self.new.rule ≡ self.old.rule) × (self.new.book ≡ self.old.book) }
-        ensures ready { IfOk result (λ d. spendable (makings self.old.calendar.year self.old.book R.SharingRule.longest (R.SharingRule.share self.old.rule) (E.Edition.known self.old.edition) (E.Edition.percent self.old.edition)) (view self.new.tables) d.book d.contract d.month ≡ true) }
+        ensures did { Did (makings E.Edition R.SharingRule self.old.basis) (view self.old.tables) (call_start contract kwmax reading) (told_draft result) (view self.new.tables) }
+        ensures kept { self.new.basis ≡ self.old.basis }
+        ensures ready { IfOk result (λ d. spendable (makings E.Edition R.SharingRule self.old.basis) (view self.new.tables) d.book d.contract d.month ≡ true) }
     {
         if contract > LARGEST_NUMBER {
             return Err(Refusal::at(Ground::OutOfBounds, 1));
@@ -124,7 +124,7 @@ impl<E: Edition + Drop, R: SharingRule + Drop> TariffYear<E, R> {
         metered_lines(&self.tables, found, kwmax, reading)?;
         contract_mut(&mut self.tables, contract).started = Some(Started { kwmax, reading });
         Ok(Draft {
-            book: self.book,
+            book: self.basis.book,
             contract,
             month: found.month,
         })
@@ -132,10 +132,10 @@ impl<E: Edition + Drop, R: SharingRule + Drop> TariffYear<E, R> {
 
     // Bills the month of a draft that is out.
     pub fn issue(&mut self, draft: Draft) -> Result<Bill, Unspent>
-        ensures did { Did (makings self.old.calendar.year self.old.book R.SharingRule.longest (R.SharingRule.share self.old.rule) (E.Edition.known self.old.edition) (E.Edition.percent self.old.edition)) (view self.old.tables) (call_issue draft.book draft.contract draft.month) (told_bill result) (view self.new.tables) }
-        ensures kept { (self.new.calendar ≡ self.old.calendar) × (self.new.edition ≡ self.old.edition) × (self.new.rule ≡ self.old.rule) × (self.new.book ≡ self.old.book) }
+        ensures did { Did (makings E.Edition R.SharingRule self.old.basis) (view self.old.tables) (call_issue draft.book draft.contract draft.month) (told_bill result) (view self.new.tables) }
+        ensures kept { self.new.basis ≡ self.old.basis }
         ensures back { Back draft result }
-        ensures accepts { spendable (makings self.old.calendar.year self.old.book R.SharingRule.longest (R.SharingRule.share self.old.rule) (E.Edition.known self.old.edition) (E.Edition.percent self.old.edition)) (view self.old.tables) draft.book draft.contract draft.month ≡ true → is_ok result ≡ true }
+        ensures accepts { spendable (makings E.Edition R.SharingRule self.old.basis) (view self.old.tables) draft.book draft.contract draft.month ≡ true → is_ok result ≡ true }
         ensures own { OthersStay draft.contract (view self.old.tables) (view self.new.tables) }
     {
         let Some((found, started)) = self.draft_out(&draft) else {
@@ -169,10 +169,10 @@ impl<E: Edition + Drop, R: SharingRule + Drop> TariffYear<E, R> {
 
     // Discards a draft that is out.
     pub fn tear(&mut self, draft: Draft) -> Result<(), Unspent>
-        ensures did { Did (makings self.old.calendar.year self.old.book R.SharingRule.longest (R.SharingRule.share self.old.rule) (E.Edition.known self.old.edition) (E.Edition.percent self.old.edition)) (view self.old.tables) (call_tear draft.book draft.contract draft.month) (told_torn result) (view self.new.tables) }
-        ensures kept { (self.new.calendar ≡ self.old.calendar) × (self.new.edition ≡ self.old.edition) × (self.new.rule ≡ self.old.rule) × (self.new.book ≡ self.old.book) }
+        ensures did { Did (makings E.Edition R.SharingRule self.old.basis) (view self.old.tables) (call_tear draft.book draft.contract draft.month) (told_torn result) (view self.new.tables) }
+        ensures kept { self.new.basis ≡ self.old.basis }
         ensures back { Back draft result }
-        ensures accepts { spendable (makings self.old.calendar.year self.old.book R.SharingRule.longest (R.SharingRule.share self.old.rule) (E.Edition.known self.old.edition) (E.Edition.percent self.old.edition)) (view self.old.tables) draft.book draft.contract draft.month ≡ true → is_ok result ≡ true }
+        ensures accepts { spendable (makings E.Edition R.SharingRule self.old.basis) (view self.old.tables) draft.book draft.contract draft.month ≡ true → is_ok result ≡ true }
     {
         let Some(_) = self.draft_out(&draft) else {
             return Err(Unspent {
@@ -191,9 +191,9 @@ impl<E: Edition + Drop, R: SharingRule + Drop> TariffYear<E, R> {
 
     // The contract of a draft that is out, and what it was started with.
     fn draft_out(&self, draft: &Draft) -> Option<(Contract, Started)>
-        ensures { result ≡ draft_out (makings self.now.calendar.year self.now.book R.SharingRule.longest (R.SharingRule.share self.now.rule) (E.Edition.known self.now.edition) (E.Edition.percent self.now.edition)) (view self.now.tables) draft.now.book draft.now.contract draft.now.month }
+        ensures { result ≡ draft_out (makings E.Edition R.SharingRule self.now.basis) (view self.now.tables) draft.now.book draft.now.contract draft.now.month }
     {
-        if draft.book != self.book {
+        if draft.book != self.basis.book {
             return None;
         }
         let contract = entry(&self.tables.contracts, draft.contract)?;

@@ -26,8 +26,8 @@ pub struct Fixed {
 impl<E: Edition + Drop, R: SharingRule + Drop> TariffYear<E, R> {
     // Cuts the landed euros of a system over the four carriers, by their volumes; answers the tariffs.
     pub fn fix(&mut self, system: u64, volumes: [u64; CARRIERS]) -> Result<Fixed, Refusal>
-        ensures did { Did (makings self.old.calendar.year self.old.book R.SharingRule.longest (R.SharingRule.share self.old.rule) (E.Edition.known self.old.edition) (E.Edition.percent self.old.edition)) (view self.old.tables) (call_fix system (slice_index volumes 0) (slice_index volumes 1) (slice_index volumes 2) (slice_index volumes 3)) (told_tariffs result) (view self.new.tables) }
-        ensures kept { (self.new.calendar ≡ self.old.calendar) × (self.new.edition ≡ self.old.edition) × (self.new.rule ≡ self.old.rule) × (self.new.book ≡ self.old.book) }
+        ensures did { Did (makings E.Edition R.SharingRule self.old.basis) (view self.old.tables) (call_fix system (slice_index volumes 0) (slice_index volumes 1) (slice_index volumes 2) (slice_index volumes 3)) (told_tariffs result) (view self.new.tables) }
+        ensures kept { self.new.basis ≡ self.old.basis }
     {
         if system > LARGEST_NUMBER {
             return Err(Refusal::at(Ground::OutOfBounds, 1));
@@ -65,11 +65,11 @@ impl<E: Edition + Drop, R: SharingRule + Drop> TariffYear<E, R> {
         volumes: &[u64; CARRIERS],
     ) -> Result<Fixed, Refusal>
         requires { Fixable (view self.old.tables) system volumes.now old }
-        ensures did { Did (makings self.old.calendar.year self.old.book R.SharingRule.longest (R.SharingRule.share self.old.rule) (E.Edition.known self.old.edition) (E.Edition.percent self.old.edition)) (view self.old.tables) (call_fix system (slice_index volumes.now 0) (slice_index volumes.now 1) (slice_index volumes.now 2) (slice_index volumes.now 3)) (told_tariffs result) (view self.new.tables) }
-        ensures kept { (self.new.calendar ≡ self.old.calendar) × (self.new.edition ≡ self.old.edition) × (self.new.rule ≡ self.old.rule) × (self.new.book ≡ self.old.book) }
+        ensures did { Did (makings E.Edition R.SharingRule self.old.basis) (view self.old.tables) (call_fix system (slice_index volumes.now 0) (slice_index volumes.now 1) (slice_index volumes.now 2) (slice_index volumes.now 3)) (told_tariffs result) (view self.new.tables) }
+        ensures kept { self.new.basis ≡ self.old.basis }
     {
-        let row = percentages(&self.edition, old.category)?;
-        let fixing = work_out_fixing(&self.rule, old.landed, &row, volumes)?;
+        let row = percentages(&self.basis.edition, old.category)?;
+        let fixing = work_out_fixing(&self.basis.rule, old.landed, &row, volumes)?;
         self.tables.systems[(system - 1) as usize] = System {
             fixing: Some(fixing),
             ..old

@@ -1,6 +1,7 @@
 // The tariff year of a grid operator: its tables, and the calls that change them.
 #![tactic(auto)]
 
+mod basis;
 mod bills;
 mod books;
 mod contract_questions;
@@ -16,6 +17,7 @@ mod systems;
 mod takers;
 mod year;
 
+pub use basis::Basis;
 pub use books::Books;
 pub use contract_questions::{ContractMonth, DayShare, Metered, Metering};
 pub use drafts::{Bill, Draft, DraftNumbers, Unspent};

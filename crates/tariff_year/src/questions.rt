@@ -22,15 +22,15 @@ pub struct Counts {
 
 impl<E: Edition + Drop, R: SharingRule + Drop> TariffYear<E, R> {
     pub fn calendar_year(&self) -> CalendarYear
-        ensures { result ≡ self.now.calendar }
+        ensures { result ≡ self.now.basis.calendar }
     {
-        self.calendar
+        self.basis.calendar
     }
 
     pub fn book(&self) -> u64
-        ensures { result ≡ self.now.book }
+        ensures { result ≡ self.now.basis.book }
     {
-        self.book
+        self.basis.book
     }
 
     pub fn counts(&self) -> Counts

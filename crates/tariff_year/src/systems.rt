@@ -24,8 +24,8 @@ const MOST_BELOW: u64 = 31;
 impl<E: Edition + Drop, R: SharingRule + Drop> TariffYear<E, R> {
     // One system more at this level and of this category; answers its number.
     pub fn open(&mut self, level: u64, category: u64) -> Result<u64, Refusal>
-        ensures did { Did (makings self.old.calendar.year self.old.book R.SharingRule.longest (R.SharingRule.share self.old.rule) (E.Edition.known self.old.edition) (E.Edition.percent self.old.edition)) (view self.old.tables) (call_open level category) (told_number result) (view self.new.tables) }
-        ensures kept { (self.new.calendar ≡ self.old.calendar) × (self.new.edition ≡ self.old.edition) × (self.new.rule ≡ self.old.rule) × (self.new.book ≡ self.old.book) }
+        ensures did { Did (makings E.Edition R.SharingRule self.old.basis) (view self.old.tables) (call_open level category) (told_number result) (view self.new.tables) }
+        ensures kept { self.new.basis ≡ self.old.basis }
     {
         if level < 1 || level > 7 {
             return Err(Refusal::at(Ground::OutOfBounds, 1));
@@ -33,7 +33,7 @@ impl<E: Edition + Drop, R: SharingRule + Drop> TariffYear<E, R> {
         if category < 1 || category > 99 {
             return Err(Refusal::at(Ground::OutOfBounds, 2));
         }
-        if !self.edition.knows(category) {
+        if !self.basis.edition.knows(category) {
             return Err(Refusal::of(Ground::UnknownCategory));
         }
         let count = self.tables.systems.len();
@@ -55,8 +55,8 @@ impl<E: Edition + Drop, R: SharingRule + Drop> TariffYear<E, R> {
 
     // Joins an upper system to a lower one, with the kW and MWh exchanged; answers the coupling's number.
     pub fn couple(&mut self, upper: u64, lower: u64, kw: u64, mwh: u64) -> Result<u64, Refusal>
-        ensures did { Did (makings self.old.calendar.year self.old.book R.SharingRule.longest (R.SharingRule.share self.old.rule) (E.Edition.known self.old.edition) (E.Edition.percent self.old.edition)) (view self.old.tables) (call_couple upper lower kw mwh) (told_number result) (view self.new.tables) }
-        ensures kept { (self.new.calendar ≡ self.old.calendar) × (self.new.edition ≡ self.old.edition) × (self.new.rule ≡ self.old.rule) × (self.new.book ≡ self.old.book) }
+        ensures did { Did (makings E.Edition R.SharingRule self.old.basis) (view self.old.tables) (call_couple upper lower kw mwh) (told_number result) (view self.new.tables) }
+        ensures kept { self.new.basis ≡ self.old.basis }
     {
         if upper > LARGEST_NUMBER {
             return Err(Refusal::at(Ground::OutOfBounds, 1));
@@ -106,8 +106,8 @@ impl<E: Edition + Drop, R: SharingRule + Drop> TariffYear<E, R> {
         mwh: u64,
         permille: u64,
     ) -> Result<u64, Refusal>
-        ensures did { Did (makings self.old.calendar.year self.old.book R.SharingRule.longest (R.SharingRule.share self.old.rule) (E.Edition.known self.old.edition) (E.Edition.percent self.old.edition)) (view self.old.tables) (call_use system kw mwh permille) (told_number result) (view self.new.tables) }
-        ensures kept { (self.new.calendar ≡ self.old.calendar) × (self.new.edition ≡ self.old.edition) × (self.new.rule ≡ self.old.rule) × (self.new.book ≡ self.old.book) }
+        ensures did { Did (makings E.Edition R.SharingRule self.old.basis) (view self.old.tables) (call_use system kw mwh permille) (told_number result) (view self.new.tables) }
+        ensures kept { self.new.basis ≡ self.old.basis }
     {
         if system > LARGEST_NUMBER {
             return Err(Refusal::at(Ground::OutOfBounds, 1));
@@ -138,8 +138,8 @@ impl<E: Edition + Drop, R: SharingRule + Drop> TariffYear<E, R> {
 
     // Adds euros to those standing at a system; answers the euros now standing.
     pub fn cost(&mut self, system: u64, euros: u64) -> Result<u64, Refusal>
-        ensures did { Did (makings self.old.calendar.year self.old.book R.SharingRule.longest (R.SharingRule.share self.old.rule) (E.Edition.known self.old.edition) (E.Edition.percent self.old.edition)) (view self.old.tables) (call_cost system euros) (told_number result) (view self.new.tables) }
-        ensures kept { (self.new.calendar ≡ self.old.calendar) × (self.new.edition ≡ self.old.edition) × (self.new.rule ≡ self.old.rule) × (self.new.book ≡ self.old.book) }
+        ensures did { Did (makings E.Edition R.SharingRule self.old.basis) (view self.old.tables) (call_cost system euros) (told_number result) (view self.new.tables) }
+        ensures kept { self.new.basis ≡ self.old.basis }
     {
         if system > LARGEST_NUMBER {
             return Err(Refusal::at(Ground::OutOfBounds, 1));
@@ -165,8 +165,8 @@ impl<E: Edition + Drop, R: SharingRule + Drop> TariffYear<E, R> {
 
     // Removes euros that stand at a system; answers the euros still standing.
     pub fn take_back(&mut self, system: u64, euros: u64) -> Result<u64, Refusal>
-        ensures did { Did (makings self.old.calendar.year self.old.book R.SharingRule.longest (R.SharingRule.share self.old.rule) (E.Edition.known self.old.edition) (E.Edition.percent self.old.edition)) (view self.old.tables) (call_take_back system euros) (told_number result) (view self.new.tables) }
-        ensures kept { (self.new.calendar ≡ self.old.calendar) × (self.new.edition ≡ self.old.edition) × (self.new.rule ≡ self.old.rule) × (self.new.book ≡ self.old.book) }
+        ensures did { Did (makings E.Edition R.SharingRule self.old.basis) (view self.old.tables) (call_take_back system euros) (told_number result) (view self.new.tables) }
+        ensures kept { self.new.basis ≡ self.old.basis }
     {
         if system > LARGEST_NUMBER {
             return Err(Refusal::at(Ground::OutOfBounds, 1));

@@ -4,6 +4,7 @@ ghost use Rattle.year_model.specs.Sound.{CategoriesKnown, FixingsWhole, IsSound,
 ghost use Rattle.year_model.specs.State.{begun, view};
 ghost use Rattle.tariff_year.specs.Years.{Roomy};
 
+use crate::basis::Basis;
 use calendar::CalendarYear;
 use edition::Edition;
 use sharing::SharingRule;
@@ -21,16 +22,13 @@ pub const MOST_CONTRACTS: usize = 256;
 // no later call can fail for want of memory.
 #[derive(Drop)]
 pub struct TariffYear<E: Edition, R: SharingRule> {
-    pub(crate) calendar: CalendarYear,
-    pub(crate) edition: E,
-    pub(crate) rule: R,
-    pub(crate) book: u64,
+    pub(crate) basis: Basis<E, R>,
     pub(crate) tables: Tables,
     ghost roomy: { Roomy tables },
     ghost sound: { IsSound (view tables) },
-    ghost dated: { TermsDated calendar.year (view tables) },
+    ghost dated: { TermsDated basis.calendar.year (view tables) },
     ghost priced: { FixingsWhole (view tables) },
-    ghost known: { CategoriesKnown (E.known edition) (view tables) },
+    ghost known: { CategoriesKnown (E.known basis.edition) (view tables) },
 }
 
 impl<E: Edition + Drop, R: SharingRule + Drop> TariffYear<E, R> {
@@ -42,7 +40,7 @@ impl<E: Edition + Drop, R: SharingRule + Drop> TariffYear<E, R> {
         rule: R,
         book: u64,
     ) -> Result<TariffYear<E, R>, AllocError>
-        ensures { IfOk result (λ y. (view y.tables ≡ begun) × ((y.calendar ≡ calendar) × (y.edition ≡ edition) × (y.rule ≡ rule) × (y.book ≡ book))) }
+        ensures { IfOk result (λ y. (view y.tables ≡ begun) × ((y.basis.calendar ≡ calendar) × (y.basis.edition ≡ edition) × (y.basis.rule ≡ rule) × (y.basis.book ≡ book))) }
     {
         let systems = Vec::with_capacity(heap, MOST_SYSTEMS)?;
         let couplings = Vec::with_capacity(heap, MOST_COUPLINGS)?;
@@ -53,12 +51,12 @@ impl<E: Edition + Drop, R: SharingRule + Drop> TariffYear<E, R> {
             contracts,
             net: 0,
         };
-        Ok(TariffYear {
+        let basis = Basis {
             calendar,
             edition,
             rule,
             book,
-            tables,
-        })
+        };
+        Ok(TariffYear { basis, tables })
     }
 }

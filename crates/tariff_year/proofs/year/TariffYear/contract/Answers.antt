@@ -20,11 +20,7 @@ returns-in_err-yearly g c =
     let s = view old.tables in
     let x = c.in-Some.supplier in
     let f = c.in-Some-fixing.fixing in
-    let longest = g.R.SharingRule.longest in
-    let share = g.R.SharingRule.share old.rule in
-    let known = g.E.Edition.known old.edition in
-    let percent = g.E.Edition.percent old.edition in
-    let m = makings old.calendar.year old.book longest share known percent in
+    let m = makings g.E.Edition g.R.SharingRule old.basis in
     let ok : Asked m s c.args.system c.args.kw c.args.fee c.args.first c.args.last c.args.reading x f = record {
       number = c.if-system-gt-LARGEST_NUMBER.false;
       kw_fits = c.if-kw-gt-LARGEST_KW.false;
@@ -43,7 +39,7 @@ returns-in_err-yearly g c =
     let is : told_number c.from_residual.result ≡ Err (refuse ChargeTooHigh 0) = ap told_number p.1 ∙ ap (λ (e : Refusal). Err e) (p.2 ∙ refused.1) in
     record {
       did = charge_refused m s c.args.system c.args.kw c.args.fee c.args.first c.args.last c.args.reading x f ok refused.0 (told_number c.from_residual.result) is;
-      kept = (refl, refl, refl, refl);
+      kept = refl;
     }
 
 pub invariant_of-self : goal.invariant_of-self
@@ -52,11 +48,7 @@ invariant_of-self g c =
     let s = view old.tables in
     let x = c.in-Some.supplier in
     let f = c.in-Some-fixing.fixing in
-    let longest = g.R.SharingRule.longest in
-    let share = g.R.SharingRule.share old.rule in
-    let known = g.E.Edition.known old.edition in
-    let percent = g.E.Edition.percent old.edition in
-    let m = makings old.calendar.year old.book longest share known percent in
+    let m = makings g.E.Edition g.R.SharingRule old.basis in
     let ok : Asked m s c.args.system c.args.kw c.args.fee c.args.first c.args.last c.args.reading x f = record {
       number = c.if-system-gt-LARGEST_NUMBER.false;
       kw_fits = c.if-kw-gt-LARGEST_KW.false;
@@ -73,7 +65,7 @@ invariant_of-self g c =
     let new : Tables = record { systems = old.tables.systems; couplings = old.tables.couplings; contracts = c.push_reserved.new.self; net = old.tables.net } in
     let told = charge_told c.args.fee c.args.kw (tariff_at f 1) (tariff_at f 4) ok.fee_fits ok.kw_fits (small 1) (small 4) c.in_ok-yearly.yearly c.in_ok-yearly.ensures in
     let did = contract_made m s c.args.system c.args.kw c.args.fee c.args.first c.args.last c.args.reading x f ok c.in_ok-yearly.yearly c.len-count.result told.0 told.1 (c.len-count.ensures ∙ old.tables.contracts.ok.0) (view new) (search rules) in
-    let law = lawful old.calendar.year old.book longest share known percent old.calendar.from old.calendar.to g.met.R.SharingRule.twelve (g.met.R.SharingRule.sharing old.rule) (g.met.E.Edition.hundred old.edition) in
+    let law = lawful g.E.Edition g.R.SharingRule old.basis g.met.R.SharingRule.twelve (g.met.R.SharingRule.sharing old.basis.rule) (g.met.E.Edition.hundred old.basis.edition) in
     let kept = kept_by m law (call_contract c.args.system c.args.kw c.args.fee c.args.first c.args.last c.args.reading) s (view new) did.state old.sound old.dated old.priced old.known in
     record { roomy = search rules; sound = kept.0; dated = kept.1; priced = kept.2; known = kept.3 }
 
@@ -83,11 +75,7 @@ returns g c =
     let s = view old.tables in
     let x = c.in-Some.supplier in
     let f = c.in-Some-fixing.fixing in
-    let longest = g.R.SharingRule.longest in
-    let share = g.R.SharingRule.share old.rule in
-    let known = g.E.Edition.known old.edition in
-    let percent = g.E.Edition.percent old.edition in
-    let m = makings old.calendar.year old.book longest share known percent in
+    let m = makings g.E.Edition g.R.SharingRule old.basis in
     let ok : Asked m s c.args.system c.args.kw c.args.fee c.args.first c.args.last c.args.reading x f = record {
       number = c.if-system-gt-LARGEST_NUMBER.false;
       kw_fits = c.if-kw-gt-LARGEST_KW.false;
@@ -104,4 +92,4 @@ returns g c =
     let new : Tables = record { systems = old.tables.systems; couplings = old.tables.couplings; contracts = c.push_reserved.new.self; net = old.tables.net } in
     let told = charge_told c.args.fee c.args.kw (tariff_at f 1) (tariff_at f 4) ok.fee_fits ok.kw_fits (small 1) (small 4) c.in_ok-yearly.yearly c.in_ok-yearly.ensures in
     let did = contract_made m s c.args.system c.args.kw c.args.fee c.args.first c.args.last c.args.reading x f ok c.in_ok-yearly.yearly c.len-count.result told.0 told.1 (c.len-count.ensures ∙ old.tables.contracts.ok.0) (view new) (search rules) in
-    record { did = did; kept = (refl, refl, refl, refl) }
+    record { did = did; kept = refl }

@@ -9,12 +9,8 @@ use Rattle.tariff_year.proofs.year.TariffYear.couple.Goals as goal
 pub invariant_of-self : goal.invariant_of-self
 invariant_of-self g c =
     let old = c.args.self.now in
-    let longest = g.R.SharingRule.longest in
-    let share = g.R.SharingRule.share old.rule in
-    let known = g.E.Edition.known old.edition in
-    let percent = g.E.Edition.percent old.edition in
-    let m = makings old.calendar.year old.book longest share known percent in
-    let law = lawful old.calendar.year old.book longest share known percent old.calendar.from old.calendar.to g.met.R.SharingRule.twelve (g.met.R.SharingRule.sharing old.rule) (g.met.E.Edition.hundred old.edition) in
+    let m = makings g.E.Edition g.R.SharingRule old.basis in
+    let law = lawful g.E.Edition g.R.SharingRule old.basis g.met.R.SharingRule.twelve (g.met.R.SharingRule.sharing old.basis.rule) (g.met.E.Edition.hundred old.basis.edition) in
     let new : Tables = record { systems = old.tables.systems; couplings = c.push_reserved.new.self; contracts = old.tables.contracts; net = old.tables.net } in
     let kept = kept_by m law (call_couple c.args.upper c.args.lower c.args.kw c.args.mwh) (view old.tables) (view new) (search rules) old.sound old.dated old.priced old.known in
     record { roomy = search rules; sound = kept.0; dated = kept.1; priced = kept.2; known = kept.3 }

@@ -60,12 +60,8 @@ hand_down-requires g c =
 pub invariant_of-self : goal.invariant_of-self
 invariant_of-self g c =
     let old = c.args.self.now in
-    let longest = g.R.SharingRule.longest in
-    let share = g.R.SharingRule.share old.rule in
-    let known = g.E.Edition.known old.edition in
-    let percent = g.E.Edition.percent old.edition in
-    let m = makings old.calendar.year old.book longest share known percent in
-    let law = lawful old.calendar.year old.book longest share known percent old.calendar.from old.calendar.to g.met.R.SharingRule.twelve (g.met.R.SharingRule.sharing old.rule) (g.met.E.Edition.hundred old.edition) in
+    let m = makings g.E.Edition g.R.SharingRule old.basis in
+    let law = lawful g.E.Edition g.R.SharingRule old.basis g.met.R.SharingRule.twelve (g.met.R.SharingRule.sharing old.basis.rule) (g.met.E.Edition.hundred old.basis.edition) in
     let s = view old.tables in
     let n = c.args.number in
     let x = c.args.system in
@@ -81,7 +77,7 @@ invariant_of-self g c =
 pub returns-in_err-pass : goal.returns-in_err-pass
 returns-in_err-pass g c =
     let old = c.args.self.now in
-    let m = makings old.calendar.year old.book g.R.SharingRule.longest (g.R.SharingRule.share old.rule) (g.E.Edition.known old.edition) (g.E.Edition.percent old.edition) in
+    let m = makings g.E.Edition g.R.SharingRule old.basis in
     let s = view old.tables in
     let n = c.args.number in
     let x = c.args.system in
@@ -92,13 +88,13 @@ returns-in_err-pass g c =
       told = exit.1 ∙ ap (λ (r : Refusal). Err r) exit.2 ∙ refused_told (in_the_way m s n x) refusal (pass_of m s n x) (emptied_by m s n x) told;
       small = IfOk-from_err c.from_residual.result (λ e. e.landed ≤ 5_000_000_000) (ap is_err exit.1);
       state = state_refused m s n x refusal told;
-      kept = (refl, refl, refl, refl);
+      kept = refl;
     }
 
 pub returns : goal.returns
 returns g c =
     let old = c.args.self.now in
-    let m = makings old.calendar.year old.book g.R.SharingRule.longest (g.R.SharingRule.share old.rule) (g.E.Edition.known old.edition) (g.E.Edition.percent old.edition) in
+    let m = makings g.E.Edition g.R.SharingRule old.basis in
     let s = view old.tables in
     let n = c.args.number in
     let x = c.args.system in

@@ -10,7 +10,7 @@ use Rattle.tariff_year.proofs.year.TariffYear.first_in_the_way.Goals as goal
 pub returns : goal.returns
 returns g c =
     let old = c.args.self.now in
-    let m = makings old.calendar.year old.book g.R.SharingRule.longest (g.R.SharingRule.share old.rule) (g.E.Edition.known old.edition) (g.E.Edition.percent old.edition) in
+    let m = makings g.E.Edition g.R.SharingRule old.basis in
     let s = view old.tables in
     let xs = c.deref.result.now in
     let cs = c.deref-2.result.now in

@@ -17,8 +17,8 @@ use Rattle.tariff_year.proofs.year.TariffYear.fix_settled.Goals as goal
 pub returns-in_err-row : goal.returns-in_err-row
 returns-in_err-row g c =
     let old = c.args.self.now in
-    let known = g.E.Edition.known old.edition in
-    let percent = g.E.Edition.percent old.edition in
+    let known = g.E.Edition.known old.basis.edition in
+    let percent = g.E.Edition.percent old.basis.edition in
     let x = c.args.old in
     let there = entry_from_numbered (vec_items old.tables.systems) c.args.system x c.requires.there in
     let here = sym (ap (λ (z : System). known z.category) (there.here no_system)) ∙ old.known (c.args.system - 1) (omega (arith, there.low, there.high)) in
@@ -27,7 +27,7 @@ returns-in_err-row g c =
 pub returns-in_err-fixing : goal.returns-in_err-fixing
 returns-in_err-fixing g c =
     let old = c.args.self.now in
-    let m = makings old.calendar.year old.book g.R.SharingRule.longest (g.R.SharingRule.share old.rule) (g.E.Edition.known old.edition) (g.E.Edition.percent old.edition) in
+    let m = makings g.E.Edition g.R.SharingRule old.basis in
     let came = fix_refused m (view old.tables) c.args.system c.args.volumes.now c.args.old c.requires c.in_ok-row.row c.in_ok-row.ensures c.in_err-fixing.field-0.0 c.in_err-fixing.ensures.pinned in
     let replied = ap reply_of came in
     let stays = ap (state_of (view old.tables)) came in
@@ -42,12 +42,8 @@ index_mut-requires g c =
 pub invariant_of-self : goal.invariant_of-self
 invariant_of-self g c =
     let old = c.args.self.now in
-    let longest = g.R.SharingRule.longest in
-    let share = g.R.SharingRule.share old.rule in
-    let known = g.E.Edition.known old.edition in
-    let percent = g.E.Edition.percent old.edition in
-    let m = makings old.calendar.year old.book longest share known percent in
-    let law = lawful old.calendar.year old.book longest share known percent old.calendar.from old.calendar.to g.met.R.SharingRule.twelve (g.met.R.SharingRule.sharing old.rule) (g.met.E.Edition.hundred old.edition) in
+    let m = makings g.E.Edition g.R.SharingRule old.basis in
+    let law = lawful g.E.Edition g.R.SharingRule old.basis g.met.R.SharingRule.twelve (g.met.R.SharingRule.sharing old.basis.rule) (g.met.E.Edition.hundred old.basis.edition) in
     let s = view old.tables in
     let vs = c.args.volumes.now in
     let later : State = with_system s c.args.system (with_fixing c.args.old c.in_ok-fixing.fixing) in
@@ -58,7 +54,7 @@ invariant_of-self g c =
 pub returns : goal.returns
 returns g c =
     let old = c.args.self.now in
-    let m = makings old.calendar.year old.book g.R.SharingRule.longest (g.R.SharingRule.share old.rule) (g.E.Edition.known old.edition) (g.E.Edition.percent old.edition) in
+    let m = makings g.E.Edition g.R.SharingRule old.basis in
     let came = fix_accepted m (view old.tables) c.args.system c.args.volumes.now c.args.old c.requires c.in_ok-row.row c.in_ok-row.ensures c.in_ok-fixing.fixing c.in_ok-fixing.ensures.pinned in
     let replied = ap reply_of came in
     let later = ap (state_of (view old.tables)) came in

@@ -19,11 +19,7 @@ metered_lines-requires g c =
     let draft = c.args.draft in
     let k = c.in-Some.found in
     let d = c.in-Some.started in
-    let longest = g.R.SharingRule.longest in
-    let share = g.R.SharingRule.share old.rule in
-    let known = g.E.Edition.known old.edition in
-    let percent = g.E.Edition.percent old.edition in
-    let m = makings old.calendar.year old.book longest share known percent in
+    let m = makings g.E.Edition g.R.SharingRule old.basis in
     let out = out_from_draft m s draft.book draft.contract draft.month (k, d) (sym c.in-Some.ensures) in
     let sound = sound_from_fact s old.sound in
     let held = held_of s sound draft.contract k out.entry in
@@ -36,11 +32,7 @@ unwrap-lines-requires g c =
     let draft = c.args.draft in
     let k = c.in-Some.found in
     let d = c.in-Some.started in
-    let longest = g.R.SharingRule.longest in
-    let share = g.R.SharingRule.share old.rule in
-    let known = g.E.Edition.known old.edition in
-    let percent = g.E.Edition.percent old.edition in
-    let m = makings old.calendar.year old.book longest share known percent in
+    let m = makings g.E.Edition g.R.SharingRule old.basis in
     let out = out_from_draft m s draft.book draft.contract draft.month (k, d) (sym c.in-Some.ensures) in
     let sound = sound_from_fact s old.sound in
     let held = held_of s sound draft.contract k out.entry in
@@ -53,16 +45,12 @@ month_cents-cents-requires g c =
     let draft = c.args.draft in
     let k = c.in-Some.found in
     let d = c.in-Some.started in
-    let longest = g.R.SharingRule.longest in
-    let share = g.R.SharingRule.share old.rule in
-    let known = g.E.Edition.known old.edition in
-    let percent = g.E.Edition.percent old.edition in
-    let m = makings old.calendar.year old.book longest share known percent in
+    let m = makings g.E.Edition g.R.SharingRule old.basis in
     let out = out_from_draft m s draft.book draft.contract draft.month (k, d) (sym c.in-Some.ensures) in
     let sound = sound_from_fact s old.sound in
     let held = held_of s sound draft.contract k out.entry in
     let month = month_of_draft s k held d out.started in
-    billable old.calendar.year s sound old.dated draft.contract k out.entry draft.month (omega (arith, out.of_month)) (omega (arith, out.of_month))
+    billable old.basis.calendar.year s sound old.dated draft.contract k out.entry draft.month (omega (arith, out.of_month)) (omega (arith, out.of_month))
 
 pub contract_mut-requires : goal.contract_mut-requires
 contract_mut-requires g c =
@@ -71,11 +59,7 @@ contract_mut-requires g c =
     let draft = c.args.draft in
     let k = c.in-Some.found in
     let d = c.in-Some.started in
-    let longest = g.R.SharingRule.longest in
-    let share = g.R.SharingRule.share old.rule in
-    let known = g.E.Edition.known old.edition in
-    let percent = g.E.Edition.percent old.edition in
-    let m = makings old.calendar.year old.book longest share known percent in
+    let m = makings g.E.Edition g.R.SharingRule old.basis in
     let out = out_from_draft m s draft.book draft.contract draft.month (k, d) (sym c.in-Some.ensures) in
     (out.entry.low, omega (arith, out.entry.high, old.tables.contracts.ok.0))
 
@@ -86,11 +70,7 @@ bill_month-requires g c =
     let draft = c.args.draft in
     let k = c.in-Some.found in
     let d = c.in-Some.started in
-    let longest = g.R.SharingRule.longest in
-    let share = g.R.SharingRule.share old.rule in
-    let known = g.E.Edition.known old.edition in
-    let percent = g.E.Edition.percent old.edition in
-    let m = makings old.calendar.year old.book longest share known percent in
+    let m = makings g.E.Edition g.R.SharingRule old.basis in
     let out = out_from_draft m s draft.book draft.contract draft.month (k, d) (sym c.in-Some.ensures) in
     let sound = sound_from_fact s old.sound in
     let held = held_of s sound draft.contract k out.entry in
@@ -99,7 +79,7 @@ bill_month-requires g c =
     let lines : c.unwrap-lines.result ≡ metered_cents s k d.kwmax d.reading = cc in
     let place = c.contract_mut.result.now in
     let same : place ≡ k = c.contract_mut.ensures.value ∙ out.entry.here place in
-    let law = lawful old.calendar.year old.book longest share known percent old.calendar.from old.calendar.to g.met.R.SharingRule.twelve (g.met.R.SharingRule.sharing old.rule) (g.met.E.Edition.hundred old.edition) in
+    let law = lawful g.E.Edition g.R.SharingRule old.basis g.met.R.SharingRule.twelve (g.met.R.SharingRule.sharing old.basis.rule) (g.met.E.Edition.hundred old.basis.edition) in
     issue_countable m s draft.book draft.contract draft.month k d (sym c.in-Some.ensures) place same c.unwrap-lines.result c.month_cents-cents.result lines c.month_cents-cents.ensures law sound
 
 pub invariant_of-self : goal.invariant_of-self
@@ -109,11 +89,7 @@ invariant_of-self g c =
     let draft = c.args.draft in
     let k = c.in-Some.found in
     let d = c.in-Some.started in
-    let longest = g.R.SharingRule.longest in
-    let share = g.R.SharingRule.share old.rule in
-    let known = g.E.Edition.known old.edition in
-    let percent = g.E.Edition.percent old.edition in
-    let m = makings old.calendar.year old.book longest share known percent in
+    let m = makings g.E.Edition g.R.SharingRule old.basis in
     let out = out_from_draft m s draft.book draft.contract draft.month (k, d) (sym c.in-Some.ensures) in
     let sound = sound_from_fact s old.sound in
     let held = held_of s sound draft.contract k out.entry in
@@ -123,7 +99,7 @@ invariant_of-self g c =
     let place = c.contract_mut.result.now in
     let same : place ≡ k = c.contract_mut.ensures.value ∙ out.entry.here place in
     let did = draft_issued m s draft.book draft.contract draft.month k d (sym c.in-Some.ensures) place same c.unwrap-lines.result c.month_cents-cents.result lines c.month_cents-cents.ensures c.bill_month.new.contract c.bill_month.ensures in
-    let law = lawful old.calendar.year old.book longest share known percent old.calendar.from old.calendar.to g.met.R.SharingRule.twelve (g.met.R.SharingRule.sharing old.rule) (g.met.E.Edition.hundred old.edition) in
+    let law = lawful g.E.Edition g.R.SharingRule old.basis g.met.R.SharingRule.twelve (g.met.R.SharingRule.sharing old.basis.rule) (g.met.E.Edition.hundred old.basis.edition) in
     let later : State = with_contract s draft.contract c.bill_month.new.contract in
     let kept = kept_by m law (call_issue draft.book draft.contract draft.month) s later did.state old.sound old.dated old.priced old.known in
     record { roomy = old.roomy; sound = kept.0; dated = kept.1; priced = kept.2; known = kept.3 }
@@ -135,11 +111,7 @@ returns g c =
     let draft = c.args.draft in
     let k = c.in-Some.found in
     let d = c.in-Some.started in
-    let longest = g.R.SharingRule.longest in
-    let share = g.R.SharingRule.share old.rule in
-    let known = g.E.Edition.known old.edition in
-    let percent = g.E.Edition.percent old.edition in
-    let m = makings old.calendar.year old.book longest share known percent in
+    let m = makings g.E.Edition g.R.SharingRule old.basis in
     let out = out_from_draft m s draft.book draft.contract draft.month (k, d) (sym c.in-Some.ensures) in
     let sound = sound_from_fact s old.sound in
     let held = held_of s sound draft.contract k out.entry in
@@ -149,4 +121,4 @@ returns g c =
     let place = c.contract_mut.result.now in
     let same : place ≡ k = c.contract_mut.ensures.value ∙ out.entry.here place in
     let did = draft_issued m s draft.book draft.contract draft.month k d (sym c.in-Some.ensures) place same c.unwrap-lines.result c.month_cents-cents.result lines c.month_cents-cents.ensures c.bill_month.new.contract c.bill_month.ensures in
-    record { did = did; kept = (refl, refl, refl, refl); back = tt; accepts = λ _. refl; own = others_stay s draft.contract c.bill_month.new.contract out.entry.low }
+    record { did = did; kept = refl; back = tt; accepts = λ _. refl; own = others_stay s draft.contract c.bill_month.new.contract out.entry.low }

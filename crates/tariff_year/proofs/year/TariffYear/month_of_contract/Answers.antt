@@ -10,4 +10,4 @@ shared_month-requires g c =
     let old = c.args.self.now in
     let s = view old.tables in
     let at = asked_entry s.contracts c.args.number c.in_ok-contract.contract c.in_ok-contract.ensures in
-    billable old.calendar.year s (sound_from_fact s old.sound) old.dated c.args.number c.in_ok-contract.contract at c.args.month (omega arith) (omega arith)
+    billable old.basis.calendar.year s (sound_from_fact s old.sound) old.dated c.args.number c.in_ok-contract.contract at c.args.month (omega arith) (omega arith)

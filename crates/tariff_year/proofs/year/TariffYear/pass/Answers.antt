@@ -11,7 +11,7 @@ use Rattle.tariff_year.proofs.year.TariffYear.pass.Goals as goal
 pub returns-in_err-emptied : goal.returns-in_err-emptied
 returns-in_err-emptied g c =
     let old = c.args.self.now in
-    let m = makings old.calendar.year old.book g.R.SharingRule.longest (g.R.SharingRule.share old.rule) (g.E.Edition.known old.edition) (g.E.Edition.percent old.edition) in
+    let m = makings g.E.Edition g.R.SharingRule old.basis in
     let s = view old.tables in
     let t = view c.empty.new.self.tables in
     let n = c.args.system in

@@ -17,6 +17,6 @@ portions_of-requires g c =
 
 pub returns : goal.returns
 returns g c =
-    let share = g.R.SharingRule.share c.args.self.now.rule in
+    let share = g.R.SharingRule.share c.args.self.now.basis.rule in
     ap (λ (xs : List ℕ). Ok xs) c.portions_of.ensures
     ∙ ap (λ (r : Result Contract Refusal). result_map_both (λ k. all_shares share k.yearly equal_months) (λ e. e) r) c.in_ok-contract.ensures

@@ -6,7 +6,7 @@ use Rattle.year_model.proofs.SoundFact.{sound_from_fact}
 use Rattle.tariff_year.specs.Turns.{turns}
 use Rattle.tariff_year.specs.Years.{makings}
 use Rattle.tariff_year.proofs.InTurn.{did_settle, free_in_turn, level_lands, level_more, levels_before}
-use Rattle.tariff_year.proofs.Making.{lawful, same_makings}
+use Rattle.tariff_year.proofs.Making.{lawful}
 use Rattle.tariff_year.proofs.OneTurn.{same_told}
 use Rattle.tariff_year.proofs.year.TariffYear.settle.Goals as goal
 
@@ -14,17 +14,12 @@ pub settle_level-requires : goal.settle_level-requires
 settle_level-requires g c =
     let old = c.args.self.now in
     let now = c.loop-level.self in
-    let longest = g.R.SharingRule.longest in
-    let share = g.R.SharingRule.share in
-    let known = g.E.Edition.known in
-    let percent = g.E.Edition.percent in
-    let m = makings old.calendar.year old.book longest (share old.rule) (known old.edition) (percent old.edition) in
-    let law = lawful old.calendar.year old.book longest (share old.rule) (known old.edition) (percent old.edition) old.calendar.from old.calendar.to g.met.R.SharingRule.twelve (g.met.R.SharingRule.sharing old.rule) (g.met.E.Edition.hundred old.edition) in
+    let m = makings g.E.Edition g.R.SharingRule old.basis in
+    let law = lawful g.E.Edition g.R.SharingRule old.basis g.met.R.SharingRule.twelve (g.met.R.SharingRule.sharing old.basis.rule) (g.met.E.Edition.hundred old.basis.edition) in
     let s = view old.tables in
     let t = view now.tables in
     let kept = c.loop-level.invariant.3 in
-    let years : now.calendar.year ≡ old.calendar.year = cc in
-    let same = same_makings longest share known percent now.calendar.year old.calendar.year now.book old.book now.edition old.edition now.rule old.rule years kept.1 kept.2 kept.3 in
+    let same = ap (makings g.E.Edition g.R.SharingRule) kept in
     ap (λ (n : Makings). first_obstacle n t (numbers t)) same
     ∙ ap (λ (w : State). first_obstacle m w (numbers w)) c.loop-level.invariant.0
     ∙ free_in_turn m law s (sound_from_fact s old.sound) (levels_before s c.loop-level.level) (sym c.in_default.ensures)
@@ -33,12 +28,8 @@ pub loop-level-preserved : goal.loop-level-preserved
 loop-level-preserved g c =
     let old = c.args.self.now in
     let now = c.loop-level.self in
-    let longest = g.R.SharingRule.longest in
-    let share = g.R.SharingRule.share in
-    let known = g.E.Edition.known in
-    let percent = g.E.Edition.percent in
-    let m = makings old.calendar.year old.book longest (share old.rule) (known old.edition) (percent old.edition) in
-    let law = lawful old.calendar.year old.book longest (share old.rule) (known old.edition) (percent old.edition) old.calendar.from old.calendar.to g.met.R.SharingRule.twelve (g.met.R.SharingRule.sharing old.rule) (g.met.E.Edition.hundred old.edition) in
+    let m = makings g.E.Edition g.R.SharingRule old.basis in
+    let law = lawful g.E.Edition g.R.SharingRule old.basis g.met.R.SharingRule.twelve (g.met.R.SharingRule.sharing old.basis.rule) (g.met.E.Edition.hundred old.basis.edition) in
     let s = view old.tables in
     let v = sound_from_fact s old.sound in
     let t = view now.tables in
@@ -49,20 +40,19 @@ loop-level-preserved g c =
     let inv = c.loop-level.invariant in
     let kept = inv.3 in
     let keeps = c.settle_level.ensures.kept in
-    let years : now.calendar.year ≡ old.calendar.year = cc in
-    let same = same_makings longest share known percent now.calendar.year old.calendar.year now.book old.book now.edition old.edition now.rule old.rule years kept.1 kept.2 kept.3 in
+    let same = ap (makings g.E.Edition g.R.SharingRule) kept in
     let led = c.settle_level.ensures.state ∙ ap (λ (n : Makings). passed_in_turn n t (turns t level)) same in
     let lands = same_told more _ c.in_ok-landed.ensures.told ∙ ap (λ (n : Makings). landed_in_turn n t (turns t level)) same in (
       level_more m law s v level low t inv.0 u led,
       level_lands m law s v level low t inv.0 c.loop-level.landed more inv.1 lands,
       omega (arith, inv.2, c.in_ok-landed.ensures.small),
-      (keeps.0 ∙ kept.0, keeps.1 ∙ kept.1, keeps.2 ∙ kept.2, keeps.3 ∙ kept.3),
+      keeps ∙ kept,
     )
 
 pub returns : goal.returns
 returns g c =
     let old = c.args.self.now in
-    let m = makings old.calendar.year old.book g.R.SharingRule.longest (g.R.SharingRule.share old.rule) (g.E.Edition.known old.edition) (g.E.Edition.percent old.edition) in
+    let m = makings g.E.Edition g.R.SharingRule old.basis in
     let inv = c.loop-level.invariant in
     let end : c.loop-level.level ≡ 8 = omega (arith, c.loop-level-test.false, c.loop-level.auto.level-end (omega arith)) in
     record {

@@ -7,7 +7,7 @@ use Rattle.tariff_year.proofs.year.TariffYear.settle.Given as goal
 
 abbrev pub invariant-loop-level : goal.invariant-loop-level
 invariant-loop-level g l =
-    (view l.self.tables ≡ passed_in_turn (makings l.initial.self.calendar.year l.initial.self.book g.R.SharingRule.longest (g.R.SharingRule.share l.initial.self.rule) (g.E.Edition.known l.initial.self.edition) (g.E.Edition.percent l.initial.self.edition)) (view l.initial.self.tables) (levels_before (view l.initial.self.tables) l.level))
-    × (l.landed ≡ landed_in_turn (makings l.initial.self.calendar.year l.initial.self.book g.R.SharingRule.longest (g.R.SharingRule.share l.initial.self.rule) (g.E.Edition.known l.initial.self.edition) (g.E.Edition.percent l.initial.self.edition)) (view l.initial.self.tables) (levels_before (view l.initial.self.tables) l.level))
+    (view l.self.tables ≡ passed_in_turn (makings g.E.Edition g.R.SharingRule l.initial.self.basis) (view l.initial.self.tables) (levels_before (view l.initial.self.tables) l.level))
+    × (l.landed ≡ landed_in_turn (makings g.E.Edition g.R.SharingRule l.initial.self.basis) (view l.initial.self.tables) (levels_before (view l.initial.self.tables) l.level))
     × (l.landed ≤ 320_000_000_000 * (l.level - 1))
-    × ((l.self.calendar ≡ l.initial.self.calendar) × (l.self.edition ≡ l.initial.self.edition) × (l.self.rule ≡ l.initial.self.rule) × (l.self.book ≡ l.initial.self.book))
+    × (l.self.basis ≡ l.initial.self.basis)

@@ -6,7 +6,7 @@ use Rattle.year_model.proofs.SoundFact.{sound_from_fact}
 use Rattle.tariff_year.specs.Turns.{turn_of}
 use Rattle.tariff_year.specs.Years.{makings}
 use Rattle.tariff_year.proofs.InTurn.{first_turns, free_in_turn, one_lands, one_more}
-use Rattle.tariff_year.proofs.Making.{lawful, same_makings}
+use Rattle.tariff_year.proofs.Making.{lawful}
 use Rattle.tariff_year.proofs.OneTurn.{same_told}
 use Rattle.tariff_year.proofs.year.TariffYear.settle_level.Goals as goal
 
@@ -14,17 +14,12 @@ pub settle_system-requires : goal.settle_system-requires
 settle_system-requires g c =
     let old = c.args.self.now in
     let now = c.loop-index.self in
-    let longest = g.R.SharingRule.longest in
-    let share = g.R.SharingRule.share in
-    let known = g.E.Edition.known in
-    let percent = g.E.Edition.percent in
-    let m = makings old.calendar.year old.book longest (share old.rule) (known old.edition) (percent old.edition) in
-    let law = lawful old.calendar.year old.book longest (share old.rule) (known old.edition) (percent old.edition) old.calendar.from old.calendar.to g.met.R.SharingRule.twelve (g.met.R.SharingRule.sharing old.rule) (g.met.E.Edition.hundred old.edition) in
+    let m = makings g.E.Edition g.R.SharingRule old.basis in
+    let law = lawful g.E.Edition g.R.SharingRule old.basis g.met.R.SharingRule.twelve (g.met.R.SharingRule.sharing old.basis.rule) (g.met.E.Edition.hundred old.basis.edition) in
     let s = view old.tables in
     let t = view now.tables in
     let kept = c.loop-index.invariant.3 in
-    let years : now.calendar.year ≡ old.calendar.year = cc in
-    let same = same_makings longest share known percent now.calendar.year old.calendar.year now.book old.book now.edition old.edition now.rule old.rule years kept.1 kept.2 kept.3 in
+    let same = ap (makings g.E.Edition g.R.SharingRule) kept in
     ap (λ (n : Makings). first_obstacle n t (numbers t)) same
     ∙ ap (λ (w : State). first_obstacle m w (numbers w)) c.loop-index.invariant.0
     ∙ free_in_turn m law s (sound_from_fact s old.sound) (first_turns s c.args.level c.loop-index.index) c.requires
@@ -33,12 +28,8 @@ pub loop-index-preserved : goal.loop-index-preserved
 loop-index-preserved g c =
     let old = c.args.self.now in
     let now = c.loop-index.self in
-    let longest = g.R.SharingRule.longest in
-    let share = g.R.SharingRule.share in
-    let known = g.E.Edition.known in
-    let percent = g.E.Edition.percent in
-    let m = makings old.calendar.year old.book longest (share old.rule) (known old.edition) (percent old.edition) in
-    let law = lawful old.calendar.year old.book longest (share old.rule) (known old.edition) (percent old.edition) old.calendar.from old.calendar.to g.met.R.SharingRule.twelve (g.met.R.SharingRule.sharing old.rule) (g.met.E.Edition.hundred old.edition) in
+    let m = makings g.E.Edition g.R.SharingRule old.basis in
+    let law = lawful g.E.Edition g.R.SharingRule old.basis g.met.R.SharingRule.twelve (g.met.R.SharingRule.sharing old.basis.rule) (g.met.E.Edition.hundred old.basis.edition) in
     let s = view old.tables in
     let v = sound_from_fact s old.sound in
     let t = view now.tables in
@@ -49,20 +40,19 @@ loop-index-preserved g c =
     let inv = c.loop-index.invariant in
     let kept = inv.3 in
     let keeps = c.settle_system.ensures.kept in
-    let years : now.calendar.year ≡ old.calendar.year = cc in
-    let same = same_makings longest share known percent now.calendar.year old.calendar.year now.book old.book now.edition old.edition now.rule old.rule years kept.1 kept.2 kept.3 in
+    let same = ap (makings g.E.Edition g.R.SharingRule) kept in
     let led = c.settle_system.ensures.state ∙ ap (λ (n : Makings). passed_in_turn n t (turn_of t level (i + 1))) same in
     let lands = same_told more _ c.in_ok-landed.ensures.told ∙ ap (λ (n : Makings). landed_in_turn n t (turn_of t level (i + 1))) same in (
       one_more m law s v level i t inv.0 u led,
       one_lands m law s v level i t inv.0 c.loop-index.landed more inv.1 lands,
       omega (arith, inv.2, c.in_ok-landed.ensures.small),
-      (keeps.0 ∙ kept.0, keeps.1 ∙ kept.1, keeps.2 ∙ kept.2, keeps.3 ∙ kept.3),
+      keeps ∙ kept,
     )
 
 pub returns : goal.returns
 returns g c =
     let old = c.args.self.now in
-    let m = makings old.calendar.year old.book g.R.SharingRule.longest (g.R.SharingRule.share old.rule) (g.E.Edition.known old.edition) (g.E.Edition.percent old.edition) in
+    let m = makings g.E.Edition g.R.SharingRule old.basis in
     let s = view old.tables in
     let level = c.args.level in
     let inv = c.loop-index.invariant in

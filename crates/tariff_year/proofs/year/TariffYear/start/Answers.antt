@@ -33,11 +33,7 @@ returns-in_err-metered_lines g c =
     let old = c.args.self.now in
     let s = view old.tables in
     let k = c.in-Some.found in
-    let longest = g.R.SharingRule.longest in
-    let share = g.R.SharingRule.share old.rule in
-    let known = g.E.Edition.known old.edition in
-    let percent = g.E.Edition.percent old.edition in
-    let m = makings old.calendar.year old.book longest share known percent in
+    let m = makings g.E.Edition g.R.SharingRule old.basis in
     let ok : Startable s c.args.contract c.args.kwmax c.args.reading k = record {
       number = c.if-contract-gt-LARGEST_NUMBER.false;
       kwmax_fits = c.if-kwmax-gt-LARGEST_KW.false;
@@ -52,7 +48,7 @@ returns-in_err-metered_lines g c =
     let is : told_draft c.from_residual.result ≡ Err e = ap told_draft p.1 ∙ ap (λ (r : Refusal). Err r) p.2 in
     record {
       did = start_refused m s c.args.contract c.args.kwmax c.args.reading k ok e c.in_err-metered_lines.ensures (told_draft c.from_residual.result) is;
-      kept = (refl, refl, refl, refl);
+      kept = refl;
       ready = rw p.1 tt;
     }
 
@@ -61,11 +57,7 @@ invariant_of-self g c =
     let old = c.args.self.now in
     let s = view old.tables in
     let k = c.in-Some.found in
-    let longest = g.R.SharingRule.longest in
-    let share = g.R.SharingRule.share old.rule in
-    let known = g.E.Edition.known old.edition in
-    let percent = g.E.Edition.percent old.edition in
-    let m = makings old.calendar.year old.book longest share known percent in
+    let m = makings g.E.Edition g.R.SharingRule old.basis in
     let ok : Startable s c.args.contract c.args.kwmax c.args.reading k = record {
       number = c.if-contract-gt-LARGEST_NUMBER.false;
       kwmax_fits = c.if-kwmax-gt-LARGEST_KW.false;
@@ -79,7 +71,7 @@ invariant_of-self g c =
     let at = entry_from_numbered s.contracts c.args.contract k ok.found in
     let same : place ≡ k = c.contract_mut.ensures.value ∙ at.here place in
     let did = draft_started m s c.args.contract c.args.kwmax c.args.reading k ok place same c.in_ok-metered_lines.field-0 c.in_ok-metered_lines.ensures in
-    let law = lawful old.calendar.year old.book longest share known percent old.calendar.from old.calendar.to g.met.R.SharingRule.twelve (g.met.R.SharingRule.sharing old.rule) (g.met.E.Edition.hundred old.edition) in
+    let law = lawful g.E.Edition g.R.SharingRule old.basis g.met.R.SharingRule.twelve (g.met.R.SharingRule.sharing old.basis.rule) (g.met.E.Edition.hundred old.basis.edition) in
     let later : State = with_contract s c.args.contract (with_draft place (Some record { kwmax = c.args.kwmax; reading = c.args.reading })) in
     let kept = kept_by m law (call_start c.args.contract c.args.kwmax c.args.reading) s later did.state old.sound old.dated old.priced old.known in
     record { roomy = old.roomy; sound = kept.0; dated = kept.1; priced = kept.2; known = kept.3 }
@@ -89,11 +81,7 @@ returns g c =
     let old = c.args.self.now in
     let s = view old.tables in
     let k = c.in-Some.found in
-    let longest = g.R.SharingRule.longest in
-    let share = g.R.SharingRule.share old.rule in
-    let known = g.E.Edition.known old.edition in
-    let percent = g.E.Edition.percent old.edition in
-    let m = makings old.calendar.year old.book longest share known percent in
+    let m = makings g.E.Edition g.R.SharingRule old.basis in
     let ok : Startable s c.args.contract c.args.kwmax c.args.reading k = record {
       number = c.if-contract-gt-LARGEST_NUMBER.false;
       kwmax_fits = c.if-kwmax-gt-LARGEST_KW.false;
@@ -107,4 +95,4 @@ returns g c =
     let at = entry_from_numbered s.contracts c.args.contract k ok.found in
     let same : place ≡ k = c.contract_mut.ensures.value ∙ at.here place in
     let did = draft_started m s c.args.contract c.args.kwmax c.args.reading k ok place same c.in_ok-metered_lines.field-0 c.in_ok-metered_lines.ensures in
-    record { did = did; kept = (refl, refl, refl, refl); ready = draft_ready m s c.args.contract c.args.kwmax c.args.reading k ok place same }
+    record { did = did; kept = refl; ready = draft_ready m s c.args.contract c.args.kwmax c.args.reading k ok place same }

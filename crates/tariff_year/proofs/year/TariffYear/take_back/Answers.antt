@@ -18,12 +18,8 @@ index_mut-requires g c =
 pub invariant_of-self : goal.invariant_of-self
 invariant_of-self g c =
     let old = c.args.self.now in
-    let longest = g.R.SharingRule.longest in
-    let share = g.R.SharingRule.share old.rule in
-    let known = g.E.Edition.known old.edition in
-    let percent = g.E.Edition.percent old.edition in
-    let m = makings old.calendar.year old.book longest share known percent in
-    let law = lawful old.calendar.year old.book longest share known percent old.calendar.from old.calendar.to g.met.R.SharingRule.twelve (g.met.R.SharingRule.sharing old.rule) (g.met.E.Edition.hundred old.edition) in
+    let m = makings g.E.Edition g.R.SharingRule old.basis in
+    let law = lawful g.E.Edition g.R.SharingRule old.basis g.met.R.SharingRule.twelve (g.met.R.SharingRule.sharing old.basis.rule) (g.met.E.Edition.hundred old.basis.edition) in
     let later : State = with_net (with_system (view old.tables) c.args.system (standing_at c.in-Some.old (c.in-Some.old.standing - c.args.euros))) (old.tables.net - c.args.euros) in
     let kept = kept_by m law (call_take_back c.args.system c.args.euros) (view old.tables) later (search rules) old.sound old.dated old.priced old.known in
     record { roomy = search rules; sound = kept.0; dated = kept.1; priced = kept.2; known = kept.3 }

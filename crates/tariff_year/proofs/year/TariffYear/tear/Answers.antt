@@ -15,11 +15,7 @@ contract_mut-requires g c =
     let draft = c.args.draft in
     let k = c.in-Some.field-0.0 in
     let d = c.in-Some.field-0.1 in
-    let longest = g.R.SharingRule.longest in
-    let share = g.R.SharingRule.share old.rule in
-    let known = g.E.Edition.known old.edition in
-    let percent = g.E.Edition.percent old.edition in
-    let m = makings old.calendar.year old.book longest share known percent in
+    let m = makings g.E.Edition g.R.SharingRule old.basis in
     let out = out_from_draft m s draft.book draft.contract draft.month (k, d) (sym c.in-Some.ensures) in
     (out.entry.low, omega (arith, out.entry.high, old.tables.contracts.ok.0))
 
@@ -30,16 +26,12 @@ invariant_of-self g c =
     let draft = c.args.draft in
     let k = c.in-Some.field-0.0 in
     let d = c.in-Some.field-0.1 in
-    let longest = g.R.SharingRule.longest in
-    let share = g.R.SharingRule.share old.rule in
-    let known = g.E.Edition.known old.edition in
-    let percent = g.E.Edition.percent old.edition in
-    let m = makings old.calendar.year old.book longest share known percent in
+    let m = makings g.E.Edition g.R.SharingRule old.basis in
     let out = out_from_draft m s draft.book draft.contract draft.month (k, d) (sym c.in-Some.ensures) in
     let place = c.contract_mut.result.now in
     let same : place ≡ k = c.contract_mut.ensures.value ∙ out.entry.here place in
     let did = draft_torn m s draft.book draft.contract draft.month k d (sym c.in-Some.ensures) place same in
-    let law = lawful old.calendar.year old.book longest share known percent old.calendar.from old.calendar.to g.met.R.SharingRule.twelve (g.met.R.SharingRule.sharing old.rule) (g.met.E.Edition.hundred old.edition) in
+    let law = lawful g.E.Edition g.R.SharingRule old.basis g.met.R.SharingRule.twelve (g.met.R.SharingRule.sharing old.basis.rule) (g.met.E.Edition.hundred old.basis.edition) in
     let later : State = with_contract s draft.contract (with_draft place None) in
     let kept = kept_by m law (call_tear draft.book draft.contract draft.month) s later did.state old.sound old.dated old.priced old.known in
     record { roomy = old.roomy; sound = kept.0; dated = kept.1; priced = kept.2; known = kept.3 }
@@ -51,13 +43,9 @@ returns g c =
     let draft = c.args.draft in
     let k = c.in-Some.field-0.0 in
     let d = c.in-Some.field-0.1 in
-    let longest = g.R.SharingRule.longest in
-    let share = g.R.SharingRule.share old.rule in
-    let known = g.E.Edition.known old.edition in
-    let percent = g.E.Edition.percent old.edition in
-    let m = makings old.calendar.year old.book longest share known percent in
+    let m = makings g.E.Edition g.R.SharingRule old.basis in
     let out = out_from_draft m s draft.book draft.contract draft.month (k, d) (sym c.in-Some.ensures) in
     let place = c.contract_mut.result.now in
     let same : place ≡ k = c.contract_mut.ensures.value ∙ out.entry.here place in
     let did = draft_torn m s draft.book draft.contract draft.month k d (sym c.in-Some.ensures) place same in
-    record { did = did; kept = (refl, refl, refl, refl); back = tt; accepts = λ _. refl }
+    record { did = did; kept = refl; back = tt; accepts = λ _. refl }

@@ -18,7 +18,7 @@ gather-takers-requires g c =
 pub returns-in-Ok : goal.returns-in-Ok
 returns-in-Ok g c =
     let old = c.args.self.now in
-    let m = makings old.calendar.year old.book g.R.SharingRule.longest (g.R.SharingRule.share old.rule) (g.E.Edition.known old.edition) (g.E.Edition.percent old.edition) in
+    let m = makings g.E.Edition g.R.SharingRule old.basis in
     let gathered = c.gather-takers.ensures in
     record {
       pinned = pass_told m (view old.tables) (sound_from_fact (view old.tables) old.sound) c.args.number c.args.system c.requires c.deref.result.now c.deref.ensures.value
@@ -30,7 +30,7 @@ returns-in-Ok g c =
 pub returns-in-Err : goal.returns-in-Err
 returns-in-Err g c =
     let old = c.args.self.now in
-    let m = makings old.calendar.year old.book g.R.SharingRule.longest (g.R.SharingRule.share old.rule) (g.E.Edition.known old.edition) (g.E.Edition.percent old.edition) in
+    let m = makings g.E.Edition g.R.SharingRule old.basis in
     let gathered = c.gather-takers.ensures in
     record {
       pinned = ap (λ (r : Refusal). Err r) c.at.ensures
