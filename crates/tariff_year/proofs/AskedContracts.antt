@@ -9,7 +9,8 @@ use Rattle.year_model.specs.Sound.{Sound}
 use Rattle.year_model.specs.State.{State, numbered}
 use Rattle.year_model.proofs.Grids.{Held}
 use Rattle.year_model.proofs.Lookups.{Entry, entry_from_numbered}
-use Rattle.tariff_year.specs.Questions.{asked, told_entry}
+use Rattle.tariff_year.specs.LookedUp.{told_entry}
+use Rattle.tariff_year.specs.Questions.{asked}
 use Rattle.tariff_year.proofs.Holding.{held_of}
 
 answered : {X : Type 0} (test : Bool) (e : Refusal) (o : Option X) (x : X) → Ok x ≡ cond test (Err e) (told_entry o) → o ≡ Some x

@@ -1,7 +1,7 @@
 -- A fix that no test refuses comes to what the fixing comes to.
-use Rattle.std.proofs.Common.{◌≡◌, ℕ, ◌+◌, Bool, true, false, cond, ◌||◌, ltb, List, [], ◌∷◌, length, get_or, Some, Ok, Err, Option, Result, sym, refl, ap, ◌∙◌, arith}
-use Rattle.std.proofs.lemmas.Bool.{cond-false, le-ltb, or_from}
-use Rattle.refusal.specs.declared.ground.Ground.TheVariants.{NotSettled, OutOfBounds, SystemFixed, UnknownCategory}
+use Rattle.std.proofs.Common.{◌≡◌, ℕ, ◌+◌, ◌<◌, ◌≤◌, ◌⊎◌, Bool, true, false, cond, ◌||◌, ltb, List, [], ◌∷◌, length, get_or, Some, None, Ok, Err, Option, Result, sym, refl, ap, ◌∙◌, arith}
+use Rattle.std.proofs.lemmas.Bool.{cond-true, cond-false, le-ltb, or_from}
+use Rattle.refusal.specs.declared.ground.Ground.TheVariants.{NotSettled, NotThere, OutOfBounds, SystemFixed, UnknownCategory}
 use Rattle.refusal.specs.declared.refusal.Refusal.{Refusal}
 use Rattle.refusal.specs.Refusals.{refuse}
 use Rattle.billing.specs.declared.fixings.Fixing.{Fixing}
@@ -15,6 +15,7 @@ use Rattle.year_model.specs.Steps.{outcome}
 use Rattle.year_model.specs.declared.tables.System.{System}
 use Rattle.year_model.proofs.Outcomes.{Bounded}
 use Rattle.tariff_year.specs.Fixable.{Fixable}
+use Rattle.tariff_year.specs.LookedUp.{unfixed}
 
 -- Arguments within their limits let a call go on.
 goes_on_within : (place : ℕ) (arguments : List (ℕ × ℕ)) (o : Outcome) → Bounded arguments → within_from place arguments o ≡ o
@@ -40,6 +41,41 @@ four_of (a ∷ b ∷ c ∷ d ∷ f ∷ xs) e = absurd (omega arith)
 -- what a fix comes to, by the edition's percentages
 abbrev pub fix_asked : Makings → State → ℕ → List ℕ → System → Outcome
 fix_asked m s n volumes x = fix_with s n x (fixing_answer m.share x.landed (percentages m.percent x.category) volumes)
+
+-- what a fix of a system that is not fixed comes to
+abbrev fix_next : Makings → State → ℕ → List ℕ → System → Outcome
+fix_next m s n volumes x = cond (ltb 0 x.standing || ltb 0 (unfixed_above s n)) (Err (refuse NotSettled n)) (fix_asked m s n volumes x)
+
+-- A fix within bounds asks for a system that is not fixed.
+fix_within : (m : Makings) (s : State) (n v₁ v₂ v₃ v₄ : ℕ) → n ≤ largest_number → v₁ ≤ largest_number → v₂ ≤ largest_number → v₃ ≤ largest_number → v₄ ≤ largest_number
+    → outcome m s (call_fix n v₁ v₂ v₃ v₄) ≡ on_unfixed s n (fix_next m s n (v₁ ∷ v₂ ∷ v₃ ∷ v₄ ∷ []))
+fix_within m s n v₁ v₂ v₃ v₄ number first second third fourth =
+    goes_on_within 1 ((n, largest_number) ∷ (v₁, largest_number) ∷ (v₂, largest_number) ∷ (v₃, largest_number) ∷ (v₄, largest_number) ∷ []) (on_unfixed s n (fix_next m s n (v₁ ∷ v₂ ∷ v₃ ∷ v₄ ∷ [])))
+    (number, (first, (second, (third, (fourth, tt)))))
+
+refused_by_test : (fixed : Bool) (x : System) (next : Outcome) (e : Refusal) → ◌≡◌ {A = Result System Refusal} (Err e) (cond fixed (Err (refuse SystemFixed 0)) (Ok x)) → cond fixed (Err (refuse SystemFixed 0)) next ≡ Err e
+refused_by_test true x next e told = let same : e ≡ refuse SystemFixed 0 = cc in ap (λ (r : Refusal). Err r) (sym same)
+refused_by_test false x next e told = let z : ◌≡◌ {A = ℕ} 0 1 = cc in absurd (omega arith)
+
+-- A system that is not there, or that is fixed, refuses the call.
+refused_unfixed : (o : Option System) (next : System → Outcome) (e : Refusal) → Err e ≡ unfixed o → found o (λ x. cond (is_fixed x) (Err (refuse SystemFixed 0)) (next x)) ≡ Err e
+refused_unfixed None next e told = let same : e ≡ refuse NotThere 0 = cc in ap (λ (r : Refusal). Err r) (sym same)
+refused_unfixed (Some x) next e told = refused_by_test (is_fixed x) x (next x) e told
+
+-- A fix of a system that is not there, or that is fixed, is refused,
+pub fix_of_none : (m : Makings) (s : State) (n v₁ v₂ v₃ v₄ : ℕ) → n ≤ largest_number → v₁ ≤ largest_number → v₂ ≤ largest_number → v₃ ≤ largest_number → v₄ ≤ largest_number
+    → (e : Refusal) → Err e ≡ unfixed (numbered s.systems n) → outcome m s (call_fix n v₁ v₂ v₃ v₄) ≡ Err e
+fix_of_none m s n v₁ v₂ v₃ v₄ number first second third fourth e told =
+    fix_within m s n v₁ v₂ v₃ v₄ number first second third fourth ∙ refused_unfixed (numbered s.systems n) (fix_next m s n (v₁ ∷ v₂ ∷ v₃ ∷ v₄ ∷ [])) e told
+
+-- and so is one of a system that is not settled.
+pub fix_unsettled : (m : Makings) (s : State) (n v₁ v₂ v₃ v₄ : ℕ) → n ≤ largest_number → v₁ ≤ largest_number → v₂ ≤ largest_number → v₃ ≤ largest_number → v₄ ≤ largest_number
+    → (x : System) → numbered s.systems n ≡ Some x → is_fixed x ≡ false → (0 < x.standing) ⊎ ((x.standing ≤ 0) × (0 < unfixed_above s n))
+    → outcome m s (call_fix n v₁ v₂ v₃ v₄) ≡ Err (refuse NotSettled n)
+fix_unsettled m s n v₁ v₂ v₃ v₄ number first second third fourth x there unfixed unsettled =
+    fix_within m s n v₁ v₂ v₃ v₄ number first second third fourth
+    ∙ goes_on_unfixed s n x (fix_next m s n (v₁ ∷ v₂ ∷ v₃ ∷ v₄ ∷ [])) there unfixed
+    ∙ cond-true (ltb 0 x.standing || ltb 0 (unfixed_above s n)) (Err (refuse NotSettled n)) (fix_asked m s n (v₁ ∷ v₂ ∷ v₃ ∷ v₄ ∷ []) x) (grind (arith, unsettled))
 
 -- A fix that has met all tests before comes to that.
 pub fix_past : (m : Makings) (s : State) (n : ℕ) (volumes : List ℕ) (x : System) → Fixable s n volumes x

@@ -1,6 +1,7 @@
 pub mod Books
 pub mod Fixable
 pub mod Lines
+pub mod LookedUp
 pub mod Obstacles
 pub mod Questions
 pub mod Replies

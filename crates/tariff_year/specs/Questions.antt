@@ -1,7 +1,7 @@
 -- What the year tells when it is asked.
 use Rattle.std.specs.Prelude.{ℕ, ◌-◌, cond, not, List, length, Some, None, Ok, Err, Option, Result, nat_lt}
 use Rattle.std.specs.Result.{result_map_both}
-use Rattle.refusal.specs.declared.ground.Ground.TheVariants.{NotThere, OutOfBounds, SystemNotFixed}
+use Rattle.refusal.specs.declared.ground.Ground.TheVariants.{OutOfBounds, SystemNotFixed}
 use Rattle.refusal.specs.declared.refusal.Refusal.{Refusal}
 use Rattle.refusal.specs.Refusals.{refuse}
 use Rattle.billing.specs.declared.fixings.Fixing.{Fixing}
@@ -16,14 +16,11 @@ use Rattle.year_model.specs.Books.{kwh_carry, kwmax_carry}
 use Rattle.year_model.specs.Calls.{largest_number}
 use Rattle.year_model.specs.Makings.{Makings}
 use Rattle.year_model.specs.State.{State, numbered}
+use Rattle.tariff_year.specs.LookedUp.{told_entry}
 use Rattle.tariff_year.specs.declared.contract_questions.ContractMonth.{ContractMonth}
 use Rattle.tariff_year.specs.declared.contract_questions.DayShare.{DayShare}
 use Rattle.tariff_year.specs.declared.contract_questions.Metering.{Metering}
 use Rattle.tariff_year.specs.declared.questions.Counts.{Counts}
-
-abbrev pub told_entry : {X : Type 0} → Option X → Result X Refusal
-told_entry None = Err (refuse NotThere 0)
-told_entry (Some x) = Ok x
 
 -- The entry with this number; a number above ten digits is refused first, then one that is not there.
 abbrev pub asked : {X : Type 0} → List X → ℕ → Result X Refusal

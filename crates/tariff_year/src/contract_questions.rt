@@ -9,6 +9,7 @@ ghost use Rattle.tariff_year.specs.Questions.{asked, contract_month, metering_as
 ghost use Rattle.tariff_year.specs.Years.{makings};
 
 use crate::bills::{KWH, KWMAX, tariff};
+use crate::look_up::bound;
 use crate::questions::found;
 use crate::systems::LARGEST_NUMBER;
 use crate::year::TariffYear;
@@ -87,10 +88,8 @@ impl<E: Edition + Drop, R: SharingRule + Drop> TariffYear<E, R> {
     pub fn month_of_contract(&self, number: u64, month: u64) -> Result<ContractMonth, Refusal>
         ensures { result ≡ month_asked (makings E.Edition R.SharingRule self.now.basis) (view self.now.tables) number month }
     {
-        if number > LARGEST_NUMBER {
-            return Err(Refusal::at(Ground::OutOfBounds, 1));
-        }
-        if month < 1 || month > 12 {
+        bound(1, number, LARGEST_NUMBER)?;
+        if !(1..=12).contains(&month) {
             return Err(Refusal::at(Ground::OutOfBounds, 2));
         }
         let contract = self.contract_record(number)?;

@@ -13,7 +13,7 @@ ghost use Rattle.tariff_year.specs.Years.{Did, makings, told_number};
 
 use crate::bills::{bill_month, metered_lines};
 use crate::drafts::{Bill, Draft, Unspent};
-use crate::look_up::entry;
+use crate::look_up::{bound, entry, listed};
 use crate::systems::LARGEST_NUMBER;
 use crate::year::{MOST_CONTRACTS, TariffYear};
 use billing::yearly_charge;
@@ -43,34 +43,22 @@ impl<E: Edition + Drop, R: SharingRule + Drop> TariffYear<E, R> {
         ensures did { Did (makings E.Edition R.SharingRule self.old.basis) (view self.old.tables) (call_contract system kw fee first last reading) (told_number result) (view self.new.tables) }
         ensures kept { self.new.basis ≡ self.old.basis }
     {
-        if system > LARGEST_NUMBER {
-            return Err(Refusal::at(Ground::OutOfBounds, 1));
-        }
-        if kw > LARGEST_KW {
-            return Err(Refusal::at(Ground::OutOfBounds, 2));
-        }
-        if fee > LARGEST_FEE {
-            return Err(Refusal::at(Ground::OutOfBounds, 3));
-        }
+        bound(1, system, LARGEST_NUMBER)?;
+        bound(2, kw, LARGEST_KW)?;
+        bound(3, fee, LARGEST_FEE)?;
         if !self.basis.calendar.is_day(first) {
             return Err(Refusal::at(Ground::OutOfBounds, 4));
         }
         if !self.basis.calendar.is_day(last) || last < first {
             return Err(Refusal::at(Ground::OutOfBounds, 5));
         }
-        if reading > LARGEST_NUMBER {
-            return Err(Refusal::at(Ground::OutOfBounds, 6));
-        }
-        let Some(supplier) = entry(&self.tables.systems, system) else {
-            return Err(Refusal::of(Ground::NotThere));
-        };
+        bound(6, reading, LARGEST_NUMBER)?;
+        let supplier = listed(&self.tables.systems, system)?;
         let count = self.tables.contracts.len();
         if count >= MOST_CONTRACTS {
             return Err(Refusal::of(Ground::TableFull));
         }
-        let Some(fixing) = supplier.fixing else {
-            return Err(Refusal::of(Ground::SystemNotFixed));
-        };
+        let fixing = supplier.fixing.ok_or(Refusal::of(Ground::SystemNotFixed))?;
         let yearly = yearly_charge(fee, kw, fixing.tariffs[0], fixing.tariffs[3])?;
         self.tables.contracts.push_reserved(Contract {
             system,
@@ -100,18 +88,10 @@ impl<E: Edition + Drop, R: SharingRule + Drop> TariffYear<E, R> {
         ensures kept { self.new.basis ≡ self.old.basis }
         ensures ready { IfOk result (λ d. spendable (makings E.Edition R.SharingRule self.old.basis) (view self.new.tables) d.book d.contract d.month ≡ true) }
     {
-        if contract > LARGEST_NUMBER {
-            return Err(Refusal::at(Ground::OutOfBounds, 1));
-        }
-        if kwmax > LARGEST_KW {
-            return Err(Refusal::at(Ground::OutOfBounds, 2));
-        }
-        if reading > LARGEST_NUMBER {
-            return Err(Refusal::at(Ground::OutOfBounds, 3));
-        }
-        let Some(found) = entry(&self.tables.contracts, contract) else {
-            return Err(Refusal::of(Ground::NotThere));
-        };
+        bound(1, contract, LARGEST_NUMBER)?;
+        bound(2, kwmax, LARGEST_KW)?;
+        bound(3, reading, LARGEST_NUMBER)?;
+        let found = listed(&self.tables.contracts, contract)?;
         if found.started.is_some() {
             return Err(Refusal::of(Ground::DraftOut));
         }

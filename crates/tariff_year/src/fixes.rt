@@ -7,7 +7,7 @@ ghost use Rattle.tariff_year.specs.Fixable.{Fixable};
 ghost use Rattle.tariff_year.specs.Questions.{asked_fixing};
 ghost use Rattle.tariff_year.specs.Years.{Did, makings, told_tariffs};
 
-use crate::look_up::entry;
+use crate::look_up::{bound, entry, unfixed};
 use crate::questions::found;
 use crate::systems::LARGEST_NUMBER;
 use crate::year::TariffYear;
@@ -29,27 +29,12 @@ impl<E: Edition + Drop, R: SharingRule + Drop> TariffYear<E, R> {
         ensures did { Did (makings E.Edition R.SharingRule self.old.basis) (view self.old.tables) (call_fix system (slice_index volumes 0) (slice_index volumes 1) (slice_index volumes 2) (slice_index volumes 3)) (told_tariffs result) (view self.new.tables) }
         ensures kept { self.new.basis ≡ self.old.basis }
     {
-        if system > LARGEST_NUMBER {
-            return Err(Refusal::at(Ground::OutOfBounds, 1));
-        }
-        if volumes[0] > LARGEST_NUMBER {
-            return Err(Refusal::at(Ground::OutOfBounds, 2));
-        }
-        if volumes[1] > LARGEST_NUMBER {
-            return Err(Refusal::at(Ground::OutOfBounds, 3));
-        }
-        if volumes[2] > LARGEST_NUMBER {
-            return Err(Refusal::at(Ground::OutOfBounds, 4));
-        }
-        if volumes[3] > LARGEST_NUMBER {
-            return Err(Refusal::at(Ground::OutOfBounds, 5));
-        }
-        let Some(old) = entry(&self.tables.systems, system) else {
-            return Err(Refusal::of(Ground::NotThere));
-        };
-        if old.fixing.is_some() {
-            return Err(Refusal::of(Ground::SystemFixed));
-        }
+        bound(1, system, LARGEST_NUMBER)?;
+        bound(2, volumes[0], LARGEST_NUMBER)?;
+        bound(3, volumes[1], LARGEST_NUMBER)?;
+        bound(4, volumes[2], LARGEST_NUMBER)?;
+        bound(5, volumes[3], LARGEST_NUMBER)?;
+        let old = unfixed(&self.tables.systems, system)?;
         let above = count_unfixed_above(&self.tables.systems, &self.tables.couplings, system);
         if old.standing > 0 || above > 0 {
             return Err(Refusal::at(Ground::NotSettled, system));
@@ -82,37 +67,24 @@ impl<E: Edition + Drop, R: SharingRule + Drop> TariffYear<E, R> {
     pub fn fixing(&self, system: u64) -> Result<Fixing, Refusal>
         ensures { result ≡ asked_fixing (view self.now.tables).systems system }
     {
-        match found(&self.tables.systems, system)?.fixing {
-            Some(fixing) => Ok(fixing),
-            None => Err(Refusal::of(Ground::SystemNotFixed)),
-        }
+        found(&self.tables.systems, system)?
+            .fixing
+            .ok_or(Refusal::of(Ground::SystemNotFixed))
     }
 }
 
 // How many couplings lead to this system from one that is not fixed.
-fn count_unfixed_above(systems: &Vec<System>, couplings: &[Coupling], lower: u64) -> u64
-    ensures { result ≡ count_by (λ c. (c.lower == lower) && is_unfixed (numbered systems.now.items c.upper)) couplings.now }
+fn count_unfixed_above(systems: &[System], couplings: &[Coupling], lower: u64) -> u64
+    ensures { result ≡ count_by (λ c. (c.lower == lower) && is_unfixed (numbered systems.now c.upper)) couplings.now }
 {
-    let mut count = 0;
-    for coupling in couplings {
-        if leads_from_unfixed(systems, *coupling, lower) {
-            count += 1;
-        }
-    }
-    count
-}
-
-fn leads_from_unfixed(systems: &Vec<System>, coupling: Coupling, lower: u64) -> bool
-    ensures { result ≡ (coupling.lower == lower && is_unfixed (numbered systems.now.items coupling.upper)) }
-{
-    coupling.lower == lower && is_unfixed(entry(systems, coupling.upper))
+    couplings
+        .iter()
+        .filter(|coupling| coupling.lower == lower && is_unfixed(entry(systems, coupling.upper)))
+        .count() as u64
 }
 
 fn is_unfixed(system: Option<System>) -> bool
     ensures { result ≡ is_unfixed system }
 {
-    match system {
-        Some(system) => system.fixing.is_none(),
-        None => false,
-    }
+    system.is_some_and(|system| system.fixing.is_none())
 }

@@ -1,16 +1,49 @@
-// Entries of a table, by their numbers from 1.
-ghost use Rattle.std.specs.Prelude.{◌≡◌};
-ghost use Rattle.year_model.specs.State.{numbered};
+// Arguments and entries of a call: what is out of bounds, not there or fixed is refused.
+ghost use Rattle.std.specs.Prelude.{◌≡◌, ◌<◌, ◌≤◌, IfOk, IfErr, Some, None, false};
+ghost use Rattle.year_model.specs.State.{is_fixed, numbered};
+ghost use Rattle.tariff_year.specs.LookedUp.{bounded, told_entry, unfixed};
 
-// The entry with this number, if there is one.
-pub fn entry<T: Copy>(entries: &Vec<T>, number: u64) -> Option<T>
-    ensures { result ≡ numbered entries.now.items number }
+use refusal::{Ground, Refusal};
+use year_model::System;
+
+// Refuses a number above its limit, by the place of the argument.
+pub fn bound(place: u64, number: u64, limit: u64) -> Result<(), Refusal>
+    ensures told { result ≡ bounded place number limit }
+    ensures within { IfOk result (λ _. number ≤ limit) }
+    ensures above { IfErr result (λ _. limit < number) }
 {
-    if number == 0 {
-        return None;
+    if number > limit {
+        return Err(Refusal::at(Ground::OutOfBounds, place));
     }
-    if number > entries.len() as u64 {
-        return None;
+    Ok(())
+}
+
+// The entry with this number, counted from 1, if there is one.
+pub fn entry<T: Copy>(entries: &[T], number: u64) -> Option<T>
+    ensures { result ≡ numbered entries.now number }
+{
+    let index = number.checked_sub(1)?;
+    entries.get(index as usize).copied()
+}
+
+// The entry with this number, or the refusal that there is none.
+pub fn listed<T: Copy>(entries: &[T], number: u64) -> Result<T, Refusal>
+    ensures told { result ≡ told_entry (numbered entries.now number) }
+    ensures there { IfOk result (λ x. numbered entries.now number ≡ Some x) }
+    ensures missing { IfErr result (λ _. numbered entries.now number ≡ None) }
+{
+    entry(entries, number).ok_or(Refusal::of(Ground::NotThere))
+}
+
+// The system with this number, unless it is fixed.
+pub fn unfixed(systems: &[System], number: u64) -> Result<System, Refusal>
+    ensures told { result ≡ unfixed (numbered systems.now number) }
+    ensures there { IfOk result (λ x. numbered systems.now number ≡ Some x) }
+    ensures not_fixed { IfOk result (λ x. is_fixed x ≡ false) }
+{
+    let system = listed(systems, number)?;
+    if system.fixing.is_some() {
+        return Err(Refusal::of(Ground::SystemFixed));
     }
-    Some(entries[(number - 1) as usize])
+    Ok(system)
 }

@@ -8,19 +8,16 @@ ghost use Rattle.tariff_year.specs.Turns.{turn_of, turns};
 ghost use Rattle.tariff_year.specs.Years.{Did, makings};
 
 use crate::handing::hand_down;
-use crate::look_up::entry;
+use crate::look_up::{bound, entry, unfixed};
 use crate::obstacles::first_obstacle;
-use crate::systems::LARGEST_NUMBER;
+use crate::systems::{LARGEST_NUMBER, LOWEST_LEVEL};
 use crate::takers::gather;
 use crate::year::TariffYear;
 use edition::Edition;
 use passing::{Pass, work_out_pass};
-use refusal::{Ground, Refusal};
+use refusal::Refusal;
 use sharing::SharingRule;
 use year_model::System;
-
-// The level with the largest number; costs go down to it.
-const LOWEST_LEVEL: u64 = 7;
 
 // What a pass came to: the euros that left the system.
 #[derive(Clone, Copy)]
@@ -47,15 +44,8 @@ impl<E: Edition + Drop, R: SharingRule + Drop> TariffYear<E, R> {
         ensures did { Did (makings E.Edition R.SharingRule self.old.basis) (view self.old.tables) (call_pass system) (told_passed result) (view self.new.tables) }
         ensures kept { self.new.basis ≡ self.old.basis }
     {
-        if system > LARGEST_NUMBER {
-            return Err(Refusal::at(Ground::OutOfBounds, 1));
-        }
-        let Some(old) = entry(&self.tables.systems, system) else {
-            return Err(Refusal::of(Ground::NotThere));
-        };
-        if old.fixing.is_some() {
-            return Err(Refusal::of(Ground::SystemFixed));
-        }
+        bound(1, system, LARGEST_NUMBER)?;
+        let old = unfixed(&self.tables.systems, system)?;
         let emptied = self.empty(system, old)?;
         Ok(Passed {
             euros: emptied.passed,
@@ -69,17 +59,14 @@ impl<E: Edition + Drop, R: SharingRule + Drop> TariffYear<E, R> {
         ensures nothing_is_lost { IfOk result (λ pass. sum pass.received ≡ system.standing) }
     {
         let takers = gather(&self.tables.couplings, number, system.kw, system.mwh);
-        let pass = work_out_pass(
+        work_out_pass(
             &self.basis.rule,
             system.standing,
             system.permille,
             &takers.kws[0..takers.count],
             &takers.mwhs[0..takers.count],
-        );
-        match pass {
-            Ok(pass) => Ok(pass),
-            Err(refusal) => Err(Refusal::at(refusal.ground, number)),
-        }
+        )
+        .map_err(|refusal| Refusal::at(refusal.ground, number))
     }
 
     // Passes this system, or tells what stands in its way.

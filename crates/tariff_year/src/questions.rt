@@ -3,12 +3,12 @@ ghost use Rattle.std.specs.Prelude.{◌≡◌};
 ghost use Rattle.year_model.specs.State.{view};
 ghost use Rattle.tariff_year.specs.Questions.{asked, counts_of};
 
-use crate::look_up::entry;
+use crate::look_up::{bound, listed};
 use crate::systems::LARGEST_NUMBER;
 use crate::year::TariffYear;
 use calendar::CalendarYear;
 use edition::Edition;
-use refusal::{Ground, Refusal};
+use refusal::Refusal;
 use sharing::SharingRule;
 use year_model::{Coupling, System};
 
@@ -66,14 +66,9 @@ impl<E: Edition + Drop, R: SharingRule + Drop> TariffYear<E, R> {
 }
 
 // The entry with this number, or why there is none.
-pub fn found<T: Copy>(entries: &Vec<T>, number: u64) -> Result<T, Refusal>
-    ensures { result ≡ asked entries.now.items number }
+pub fn found<T: Copy>(entries: &[T], number: u64) -> Result<T, Refusal>
+    ensures { result ≡ asked entries.now number }
 {
-    if number > LARGEST_NUMBER {
-        return Err(Refusal::at(Ground::OutOfBounds, 1));
-    }
-    match entry(entries, number) {
-        Some(entry) => Ok(entry),
-        None => Err(Refusal::of(Ground::NotThere)),
-    }
+    bound(1, number, LARGEST_NUMBER)?;
+    listed(entries, number)
 }

@@ -1,11 +1,11 @@
 // Opening, coupling and using systems, and their costs.
-ghost use Rattle.std.specs.Prelude.{◌≡◌, ◌&&◌, ◌==◌};
+ghost use Rattle.std.specs.Prelude.{◌≡◌};
 ghost use Rattle.year_model.specs.Calls.{call_cost, call_couple, call_open, call_take_back, call_use};
 ghost use Rattle.year_model.specs.State.{view};
 ghost use Rattle.year_model.specs.Systems.{below_count, joining_count};
 ghost use Rattle.tariff_year.specs.Years.{Did, makings, told_number};
 
-use crate::look_up::entry;
+use crate::look_up::{bound, listed, unfixed};
 use crate::year::{MOST_COUPLINGS, MOST_SYSTEMS, TariffYear};
 use edition::Edition;
 use refusal::{Ground, Refusal};
@@ -15,8 +15,14 @@ use year_model::{Coupling, System};
 // The largest number that ten columns hold.
 pub const LARGEST_NUMBER: u64 = 9_999_999_999;
 
+// The category with the largest number.
+const LARGEST_CATEGORY: u64 = 99;
+
 // The largest kW and the largest MWh.
 const LARGEST_FLOW: u64 = 30_000_000;
+
+// The level with the largest number; costs go down to it.
+pub const LOWEST_LEVEL: u64 = 7;
 
 // The most couplings below one system.
 const MOST_BELOW: u64 = 31;
@@ -27,10 +33,10 @@ impl<E: Edition + Drop, R: SharingRule + Drop> TariffYear<E, R> {
         ensures did { Did (makings E.Edition R.SharingRule self.old.basis) (view self.old.tables) (call_open level category) (told_number result) (view self.new.tables) }
         ensures kept { self.new.basis ≡ self.old.basis }
     {
-        if level < 1 || level > 7 {
+        if !(1..=LOWEST_LEVEL).contains(&level) {
             return Err(Refusal::at(Ground::OutOfBounds, 1));
         }
-        if category < 1 || category > 99 {
+        if !(1..=LARGEST_CATEGORY).contains(&category) {
             return Err(Refusal::at(Ground::OutOfBounds, 2));
         }
         if !self.basis.edition.knows(category) {
@@ -58,24 +64,12 @@ impl<E: Edition + Drop, R: SharingRule + Drop> TariffYear<E, R> {
         ensures did { Did (makings E.Edition R.SharingRule self.old.basis) (view self.old.tables) (call_couple upper lower kw mwh) (told_number result) (view self.new.tables) }
         ensures kept { self.new.basis ≡ self.old.basis }
     {
-        if upper > LARGEST_NUMBER {
-            return Err(Refusal::at(Ground::OutOfBounds, 1));
-        }
-        if lower > LARGEST_NUMBER {
-            return Err(Refusal::at(Ground::OutOfBounds, 2));
-        }
-        if kw > LARGEST_FLOW {
-            return Err(Refusal::at(Ground::OutOfBounds, 3));
-        }
-        if mwh > LARGEST_FLOW {
-            return Err(Refusal::at(Ground::OutOfBounds, 4));
-        }
-        let Some(above) = entry(&self.tables.systems, upper) else {
-            return Err(Refusal::of(Ground::NotThere));
-        };
-        let Some(below) = entry(&self.tables.systems, lower) else {
-            return Err(Refusal::of(Ground::NotThere));
-        };
+        bound(1, upper, LARGEST_NUMBER)?;
+        bound(2, lower, LARGEST_NUMBER)?;
+        bound(3, kw, LARGEST_FLOW)?;
+        bound(4, mwh, LARGEST_FLOW)?;
+        let above = listed(&self.tables.systems, upper)?;
+        let below = listed(&self.tables.systems, lower)?;
         let count = self.tables.couplings.len();
         if count >= MOST_COUPLINGS || count_below(&self.tables.couplings, upper) >= MOST_BELOW {
             return Err(Refusal::of(Ground::TableFull));
@@ -109,24 +103,11 @@ impl<E: Edition + Drop, R: SharingRule + Drop> TariffYear<E, R> {
         ensures did { Did (makings E.Edition R.SharingRule self.old.basis) (view self.old.tables) (call_use system kw mwh permille) (told_number result) (view self.new.tables) }
         ensures kept { self.new.basis ≡ self.old.basis }
     {
-        if system > LARGEST_NUMBER {
-            return Err(Refusal::at(Ground::OutOfBounds, 1));
-        }
-        if kw > LARGEST_FLOW {
-            return Err(Refusal::at(Ground::OutOfBounds, 2));
-        }
-        if mwh > LARGEST_FLOW {
-            return Err(Refusal::at(Ground::OutOfBounds, 3));
-        }
-        if permille > 1_000 {
-            return Err(Refusal::at(Ground::OutOfBounds, 4));
-        }
-        let Some(old) = entry(&self.tables.systems, system) else {
-            return Err(Refusal::of(Ground::NotThere));
-        };
-        if old.fixing.is_some() {
-            return Err(Refusal::of(Ground::SystemFixed));
-        }
+        bound(1, system, LARGEST_NUMBER)?;
+        bound(2, kw, LARGEST_FLOW)?;
+        bound(3, mwh, LARGEST_FLOW)?;
+        bound(4, permille, 1_000)?;
+        let old = unfixed(&self.tables.systems, system)?;
         self.tables.systems[(system - 1) as usize] = System {
             kw,
             mwh,
@@ -141,18 +122,9 @@ impl<E: Edition + Drop, R: SharingRule + Drop> TariffYear<E, R> {
         ensures did { Did (makings E.Edition R.SharingRule self.old.basis) (view self.old.tables) (call_cost system euros) (told_number result) (view self.new.tables) }
         ensures kept { self.new.basis ≡ self.old.basis }
     {
-        if system > LARGEST_NUMBER {
-            return Err(Refusal::at(Ground::OutOfBounds, 1));
-        }
-        if euros > LARGEST_AMOUNT {
-            return Err(Refusal::at(Ground::OutOfBounds, 2));
-        }
-        let Some(old) = entry(&self.tables.systems, system) else {
-            return Err(Refusal::of(Ground::NotThere));
-        };
-        if old.fixing.is_some() {
-            return Err(Refusal::of(Ground::SystemFixed));
-        }
+        bound(1, system, LARGEST_NUMBER)?;
+        bound(2, euros, LARGEST_AMOUNT)?;
+        let old = unfixed(&self.tables.systems, system)?;
         let net = self.tables.net + euros;
         if net > LARGEST_AMOUNT {
             return Err(Refusal::of(Ground::CostsTooHigh));
@@ -168,18 +140,9 @@ impl<E: Edition + Drop, R: SharingRule + Drop> TariffYear<E, R> {
         ensures did { Did (makings E.Edition R.SharingRule self.old.basis) (view self.old.tables) (call_take_back system euros) (told_number result) (view self.new.tables) }
         ensures kept { self.new.basis ≡ self.old.basis }
     {
-        if system > LARGEST_NUMBER {
-            return Err(Refusal::at(Ground::OutOfBounds, 1));
-        }
-        if euros > LARGEST_AMOUNT {
-            return Err(Refusal::at(Ground::OutOfBounds, 2));
-        }
-        let Some(old) = entry(&self.tables.systems, system) else {
-            return Err(Refusal::of(Ground::NotThere));
-        };
-        if old.fixing.is_some() {
-            return Err(Refusal::of(Ground::SystemFixed));
-        }
+        bound(1, system, LARGEST_NUMBER)?;
+        bound(2, euros, LARGEST_AMOUNT)?;
+        let old = unfixed(&self.tables.systems, system)?;
         if old.standing < euros {
             return Err(Refusal::of(Ground::MoreThanStands));
         }
@@ -194,30 +157,18 @@ impl<E: Edition + Drop, R: SharingRule + Drop> TariffYear<E, R> {
 fn count_below(couplings: &[Coupling], upper: u64) -> u64
     ensures { result ≡ below_count couplings.now upper }
 {
-    let mut count = 0;
-    for coupling in couplings {
-        if coupling.upper == upper {
-            count += 1;
-        }
-    }
-    count
+    couplings
+        .iter()
+        .filter(|coupling| coupling.upper == upper)
+        .count() as u64
 }
 
 // How many couplings join these two systems.
 fn count_joining(couplings: &[Coupling], upper: u64, lower: u64) -> u64
     ensures { result ≡ joining_count couplings.now upper lower }
 {
-    let mut count = 0;
-    for coupling in couplings {
-        if joins(*coupling, upper, lower) {
-            count += 1;
-        }
-    }
-    count
-}
-
-fn joins(coupling: Coupling, upper: u64, lower: u64) -> bool
-    ensures { result ≡ (coupling.upper == upper && coupling.lower == lower) }
-{
-    coupling.upper == upper && coupling.lower == lower
+    couplings
+        .iter()
+        .filter(|coupling| coupling.upper == upper && coupling.lower == lower)
+        .count() as u64
 }

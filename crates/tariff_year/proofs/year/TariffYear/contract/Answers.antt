@@ -10,6 +10,7 @@ use Rattle.year_model.specs.declared.tables.Tables.{Tables}
 use Rattle.year_model.proofs.SoundFact.{sound_from_fact}
 use Rattle.tariff_year.specs.Years.{makings, told_number}
 use Rattle.tariff_year.proofs.ContractMade.{Asked, charge_refused, contract_made}
+use Rattle.tariff_year.proofs.Entries.{here_from_slice}
 use Rattle.tariff_year.proofs.Holding.{charge_told, charge_too_high, fixed_tariff_small}
 use Rattle.tariff_year.proofs.Making.{kept_by, lawful}
 use Rattle.tariff_year.proofs.year.TariffYear.contract.Goals as goal
@@ -18,27 +19,27 @@ pub returns-in_err-yearly : goal.returns-in_err-yearly
 returns-in_err-yearly g c =
     let old = c.args.self.now in
     let s = view old.tables in
-    let x = c.in-Some.supplier in
-    let f = c.in-Some-fixing.fixing in
+    let x = c.in_ok-supplier.supplier in
+    let f = c.in_ok-fixing.fixing in
     let m = makings g.E.Edition g.R.SharingRule old.basis in
     let ok : Asked m s c.args.system c.args.kw c.args.fee c.args.first c.args.last c.args.reading x f = record {
-      number = c.if-system-gt-LARGEST_NUMBER.false;
-      kw_fits = c.if-kw-gt-LARGEST_KW.false;
-      fee_fits = c.if-fee-gt-LARGEST_FEE.false;
+      number = c.in_ok-bound.ensures.within;
+      kw_fits = c.in_ok-bound-2.ensures.within;
+      fee_fits = c.in_ok-bound-3.ensures.within;
       begins = sym c.if-not-is_day.ensures.told;
       ends = sym c.if-not-is_day-2.ensures.told;
       ordered = c.if-last-first.false;
-      reads = c.if-reading-gt-LARGEST_NUMBER.false;
-      found = sym c.in-Some.ensures;
+      reads = c.in_ok-bound-4.ensures.within;
+      found = here_from_slice _ _ c.args.system x c.deref.ensures.value c.in_ok-supplier.ensures.there;
       room = omega (arith, c.len-count.ensures, old.tables.contracts.ok.0);
-      fixed = c.in-Some-fixing.is;
+      fixed = search rules;
     } in
     let small = fixed_tariff_small s (sound_from_fact s old.sound) c.args.system x f ok.found ok.fixed in
     let refused = charge_too_high c.args.fee c.args.kw (tariff_at f 1) (tariff_at f 4) ok.fee_fits ok.kw_fits (small 1) (small 4) c.in_err-yearly.field-0.0 c.in_err-yearly.ensures in
-    let p = err_from_is_err_and c.from_residual.result c.from_residual.ensures.1 in
-    let is : told_number c.from_residual.result ≡ Err (refuse ChargeTooHigh 0) = ap told_number p.1 ∙ ap (λ (e : Refusal). Err e) (p.2 ∙ refused.1) in
+    let p = err_from_is_err_and c.from_residual-in_err-yearly.result c.from_residual-in_err-yearly.ensures.1 in
+    let is : told_number c.from_residual-in_err-yearly.result ≡ Err (refuse ChargeTooHigh 0) = ap told_number p.1 ∙ ap (λ (e : Refusal). Err e) (p.2 ∙ refused.1) in
     record {
-      did = charge_refused m s c.args.system c.args.kw c.args.fee c.args.first c.args.last c.args.reading x f ok refused.0 (told_number c.from_residual.result) is;
+      did = charge_refused m s c.args.system c.args.kw c.args.fee c.args.first c.args.last c.args.reading x f ok refused.0 (told_number c.from_residual-in_err-yearly.result) is;
       kept = refl;
     }
 
@@ -46,20 +47,20 @@ pub invariant_of-self : goal.invariant_of-self
 invariant_of-self g c =
     let old = c.args.self.now in
     let s = view old.tables in
-    let x = c.in-Some.supplier in
-    let f = c.in-Some-fixing.fixing in
+    let x = c.in_ok-supplier.supplier in
+    let f = c.in_ok-fixing.fixing in
     let m = makings g.E.Edition g.R.SharingRule old.basis in
     let ok : Asked m s c.args.system c.args.kw c.args.fee c.args.first c.args.last c.args.reading x f = record {
-      number = c.if-system-gt-LARGEST_NUMBER.false;
-      kw_fits = c.if-kw-gt-LARGEST_KW.false;
-      fee_fits = c.if-fee-gt-LARGEST_FEE.false;
+      number = c.in_ok-bound.ensures.within;
+      kw_fits = c.in_ok-bound-2.ensures.within;
+      fee_fits = c.in_ok-bound-3.ensures.within;
       begins = sym c.if-not-is_day.ensures.told;
       ends = sym c.if-not-is_day-2.ensures.told;
       ordered = c.if-last-first.false;
-      reads = c.if-reading-gt-LARGEST_NUMBER.false;
-      found = sym c.in-Some.ensures;
+      reads = c.in_ok-bound-4.ensures.within;
+      found = here_from_slice _ _ c.args.system x c.deref.ensures.value c.in_ok-supplier.ensures.there;
       room = omega (arith, c.len-count.ensures, old.tables.contracts.ok.0);
-      fixed = c.in-Some-fixing.is;
+      fixed = search rules;
     } in
     let small = fixed_tariff_small s (sound_from_fact s old.sound) c.args.system x f ok.found ok.fixed in
     let new : Tables = record { systems = old.tables.systems; couplings = old.tables.couplings; contracts = c.push_reserved.new.self; net = old.tables.net } in
@@ -73,20 +74,20 @@ pub returns : goal.returns
 returns g c =
     let old = c.args.self.now in
     let s = view old.tables in
-    let x = c.in-Some.supplier in
-    let f = c.in-Some-fixing.fixing in
+    let x = c.in_ok-supplier.supplier in
+    let f = c.in_ok-fixing.fixing in
     let m = makings g.E.Edition g.R.SharingRule old.basis in
     let ok : Asked m s c.args.system c.args.kw c.args.fee c.args.first c.args.last c.args.reading x f = record {
-      number = c.if-system-gt-LARGEST_NUMBER.false;
-      kw_fits = c.if-kw-gt-LARGEST_KW.false;
-      fee_fits = c.if-fee-gt-LARGEST_FEE.false;
+      number = c.in_ok-bound.ensures.within;
+      kw_fits = c.in_ok-bound-2.ensures.within;
+      fee_fits = c.in_ok-bound-3.ensures.within;
       begins = sym c.if-not-is_day.ensures.told;
       ends = sym c.if-not-is_day-2.ensures.told;
       ordered = c.if-last-first.false;
-      reads = c.if-reading-gt-LARGEST_NUMBER.false;
-      found = sym c.in-Some.ensures;
+      reads = c.in_ok-bound-4.ensures.within;
+      found = here_from_slice _ _ c.args.system x c.deref.ensures.value c.in_ok-supplier.ensures.there;
       room = omega (arith, c.len-count.ensures, old.tables.contracts.ok.0);
-      fixed = c.in-Some-fixing.is;
+      fixed = search rules;
     } in
     let small = fixed_tariff_small s (sound_from_fact s old.sound) c.args.system x f ok.found ok.fixed in
     let new : Tables = record { systems = old.tables.systems; couplings = old.tables.couplings; contracts = c.push_reserved.new.self; net = old.tables.net } in

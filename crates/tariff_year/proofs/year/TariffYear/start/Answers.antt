@@ -9,6 +9,7 @@ use Rattle.year_model.proofs.SoundFact.{sound_from_fact}
 use Rattle.tariff_year.specs.Told.{told_draft}
 use Rattle.tariff_year.specs.Years.{makings}
 use Rattle.tariff_year.proofs.DraftStarted.{Startable, draft_ready, draft_started, start_refused}
+use Rattle.tariff_year.proofs.Entries.{here_from_slice}
 use Rattle.tariff_year.proofs.Holding.{held_of, meterable}
 use Rattle.tariff_year.proofs.Making.{kept_by, lawful}
 use Rattle.tariff_year.proofs.Ways.{none_from_test}
@@ -18,36 +19,36 @@ pub metered_lines-requires : goal.metered_lines-requires
 metered_lines-requires g c =
     let s = view c.args.self.now.tables in
     let sound = sound_from_fact s c.args.self.now.sound in
-    let k = c.in-Some.found in
-    let held = held_of s sound c.args.contract k (entry_from_numbered s.contracts c.args.contract k (sym c.in-Some.ensures)) in
-    meterable s sound k held c.args.kwmax c.args.reading c.if-kwmax-gt-LARGEST_KW.false c.if-reading-found.false c.if-reading-gt-LARGEST_NUMBER.false
+    let k = c.in_ok-found.found in
+    let held = held_of s sound c.args.contract k (entry_from_numbered s.contracts c.args.contract k (here_from_slice _ _ c.args.contract c.in_ok-found.found c.deref.ensures.value c.in_ok-found.ensures.there)) in
+    meterable s sound k held c.args.kwmax c.args.reading c.in_ok-bound-2.ensures.within c.if-reading-found.false c.in_ok-bound-3.ensures.within
 
 pub contract_mut-requires : goal.contract_mut-requires
 contract_mut-requires g c =
     let tables = c.args.self.now.tables in
-    let there = entry_from_numbered (vec_items tables.contracts) c.args.contract c.in-Some.found (sym c.in-Some.ensures) in
+    let there = entry_from_numbered (vec_items tables.contracts) c.args.contract c.in_ok-found.found (here_from_slice _ _ c.args.contract c.in_ok-found.found c.deref.ensures.value c.in_ok-found.ensures.there) in
     (there.low, omega (arith, there.high, tables.contracts.ok.0))
 
 pub returns-in_err-metered_lines : goal.returns-in_err-metered_lines
 returns-in_err-metered_lines g c =
     let old = c.args.self.now in
     let s = view old.tables in
-    let k = c.in-Some.found in
+    let k = c.in_ok-found.found in
     let m = makings g.E.Edition g.R.SharingRule old.basis in
     let ok : Startable s c.args.contract c.args.kwmax c.args.reading k = record {
-      number = c.if-contract-gt-LARGEST_NUMBER.false;
-      kwmax_fits = c.if-kwmax-gt-LARGEST_KW.false;
-      reads = c.if-reading-gt-LARGEST_NUMBER.false;
-      found = sym c.in-Some.ensures;
+      number = c.in_ok-bound.ensures.within;
+      kwmax_fits = c.in_ok-bound-2.ensures.within;
+      reads = c.in_ok-bound-3.ensures.within;
+      found = here_from_slice _ _ c.args.contract k c.deref.ensures.value c.in_ok-found.ensures.there;
       none_out = none_from_test k.started c.if-is_some.ensures;
       left = omega (arith, c.if-found-month_of.false, c.month_of.ensures);
       rises = c.if-reading-found.false;
     } in
-    let p = err_from_is_err_and c.from_residual.result c.from_residual.ensures.1 in
+    let p = err_from_is_err_and c.from_residual-in_err-metered_lines.result c.from_residual-in_err-metered_lines.ensures.1 in
     let e = c.in_err-metered_lines.field-0.0 in
-    let is : told_draft c.from_residual.result ≡ Err e = ap told_draft p.1 ∙ ap (λ (r : Refusal). Err r) p.2 in
+    let is : told_draft c.from_residual-in_err-metered_lines.result ≡ Err e = ap told_draft p.1 ∙ ap (λ (r : Refusal). Err r) p.2 in
     record {
-      did = start_refused m s c.args.contract c.args.kwmax c.args.reading k ok e c.in_err-metered_lines.ensures (told_draft c.from_residual.result) is;
+      did = start_refused m s c.args.contract c.args.kwmax c.args.reading k ok e c.in_err-metered_lines.ensures (told_draft c.from_residual-in_err-metered_lines.result) is;
       kept = refl;
       ready = rw p.1 tt;
     }
@@ -56,13 +57,13 @@ pub invariant_of-self : goal.invariant_of-self
 invariant_of-self g c =
     let old = c.args.self.now in
     let s = view old.tables in
-    let k = c.in-Some.found in
+    let k = c.in_ok-found.found in
     let m = makings g.E.Edition g.R.SharingRule old.basis in
     let ok : Startable s c.args.contract c.args.kwmax c.args.reading k = record {
-      number = c.if-contract-gt-LARGEST_NUMBER.false;
-      kwmax_fits = c.if-kwmax-gt-LARGEST_KW.false;
-      reads = c.if-reading-gt-LARGEST_NUMBER.false;
-      found = sym c.in-Some.ensures;
+      number = c.in_ok-bound.ensures.within;
+      kwmax_fits = c.in_ok-bound-2.ensures.within;
+      reads = c.in_ok-bound-3.ensures.within;
+      found = here_from_slice _ _ c.args.contract k c.deref.ensures.value c.in_ok-found.ensures.there;
       none_out = none_from_test k.started c.if-is_some.ensures;
       left = omega (arith, c.if-found-month_of.false, c.month_of.ensures);
       rises = c.if-reading-found.false;
@@ -80,13 +81,13 @@ pub returns : goal.returns
 returns g c =
     let old = c.args.self.now in
     let s = view old.tables in
-    let k = c.in-Some.found in
+    let k = c.in_ok-found.found in
     let m = makings g.E.Edition g.R.SharingRule old.basis in
     let ok : Startable s c.args.contract c.args.kwmax c.args.reading k = record {
-      number = c.if-contract-gt-LARGEST_NUMBER.false;
-      kwmax_fits = c.if-kwmax-gt-LARGEST_KW.false;
-      reads = c.if-reading-gt-LARGEST_NUMBER.false;
-      found = sym c.in-Some.ensures;
+      number = c.in_ok-bound.ensures.within;
+      kwmax_fits = c.in_ok-bound-2.ensures.within;
+      reads = c.in_ok-bound-3.ensures.within;
+      found = here_from_slice _ _ c.args.contract k c.deref.ensures.value c.in_ok-found.ensures.there;
       none_out = none_from_test k.started c.if-is_some.ensures;
       left = omega (arith, c.if-found-month_of.false, c.month_of.ensures);
       rises = c.if-reading-found.false;

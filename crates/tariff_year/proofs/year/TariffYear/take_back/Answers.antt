@@ -3,6 +3,7 @@ use Rattle.year_model.specs.Calls.{call_take_back}
 use Rattle.year_model.specs.State.{State, view, with_net, with_system}
 use Rattle.year_model.specs.Systems.{standing_at}
 use Rattle.tariff_year.specs.Years.{makings}
+use Rattle.tariff_year.proofs.Entries.{here_from_slice}
 use Rattle.tariff_year.proofs.Making.{kept_by, lawful}
 use Rattle.tariff_year.proofs.Bounds.{standing_bounded}
 use Rattle.year_model.proofs.SoundFact.{sound_from_fact}
@@ -12,7 +13,7 @@ use Rattle.tariff_year.proofs.year.TariffYear.take_back.Goals as goal
 pub index_mut-requires : goal.index_mut-requires
 index_mut-requires g c =
     let tables = c.args.self.now.tables in
-    let there = entry_from_numbered (vec_items tables.systems) c.args.system c.in-Some.old (sym c.in-Some.ensures) in
+    let there = entry_from_numbered (vec_items tables.systems) c.args.system c.in_ok-old.old (here_from_slice _ _ c.args.system c.in_ok-old.old c.deref.ensures.value c.in_ok-old.ensures.there) in
     omega (arith, there.low, there.high, tables.systems.ok.0)
 
 pub invariant_of-self : goal.invariant_of-self
@@ -20,12 +21,12 @@ invariant_of-self g c =
     let old = c.args.self.now in
     let m = makings g.E.Edition g.R.SharingRule old.basis in
     let law = lawful g.E.Edition g.R.SharingRule old.basis g.met.R.SharingRule.twelve (g.met.R.SharingRule.sharing old.basis.rule) (g.met.E.Edition.hundred old.basis.edition) in
-    let later : State = with_net (with_system (view old.tables) c.args.system (standing_at c.in-Some.old (c.in-Some.old.standing - c.args.euros))) (old.tables.net - c.args.euros) in
+    let later : State = with_net (with_system (view old.tables) c.args.system (standing_at c.in_ok-old.old (c.in_ok-old.old.standing - c.args.euros))) (old.tables.net - c.args.euros) in
     let kept = kept_by m law (call_take_back c.args.system c.args.euros) (view old.tables) later (search rules) old.sound old.dated old.priced old.known in
     record { roomy = search rules; sound = kept.0; dated = kept.1; priced = kept.2; known = kept.3 }
 
 pub overflow_sub-self : goal.overflow_sub-self
 overflow_sub-self g c =
     let tables = c.args.self.now.tables in
-    let under = standing_bounded (view tables) c.args.system c.in-Some.old (sound_from_fact (view tables) c.args.self.now.sound).money (sym c.in-Some.ensures) in
+    let under = standing_bounded (view tables) c.args.system c.in_ok-old.old (sound_from_fact (view tables) c.args.self.now.sound).money (here_from_slice _ _ c.args.system c.in_ok-old.old c.deref.ensures.value c.in_ok-old.ensures.there) in
     omega arith

@@ -1,11 +1,10 @@
-use Rattle.std.proofs.Common.{List, Ok, Err, ap, ◌∙◌, arith}
-use Rattle.refusal.specs.declared.refusal.Refusal.{Refusal}
+use Rattle.std.proofs.Common.{◌≡◌, List, ap, ◌∙◌, arith, rules}
 use Rattle.year_model.specs.declared.tables.Coupling.{Coupling}
 use Rattle.year_model.specs.State.{view}
 use Rattle.year_model.specs.Systems.{below_count}
 use Rattle.year_model.proofs.SoundFact.{sound_from_fact}
 use Rattle.tariff_year.specs.Years.{makings}
-use Rattle.tariff_year.proofs.WorkedOut.{pass_told}
+use Rattle.tariff_year.proofs.WorkedOut.{pass_told, placed}
 use Rattle.tariff_year.proofs.year.TariffYear.work_out.Goals as goal
 
 pub gather-takers-requires : goal.gather-takers-requires
@@ -15,27 +14,14 @@ gather-takers-requires g c =
     let same = ap (λ (cs : List Coupling). below_count cs c.args.number) c.deref.ensures.value in
     omega (arith, sound.tables.2 c.args.number)
 
-pub returns-in-Ok : goal.returns-in-Ok
-returns-in-Ok g c =
+pub returns-clause-pinned : goal.returns-clause-pinned
+returns-clause-pinned g c =
     let old = c.args.self.now in
     let m = makings g.E.Edition g.R.SharingRule old.basis in
-    let gathered = c.gather-takers.ensures in
-    record {
-      pinned = pass_told m (view old.tables) (sound_from_fact (view old.tables) old.sound) c.args.number c.args.system c.requires c.deref.result.now c.deref.ensures.value
-          c.gather-takers.result.count c.gather-takers.result.kws c.gather-takers.result.mwhs gathered.count gathered.kws gathered.mwhs
-          (Ok c.in-Ok.pass) c.in-Ok.ensures.pinned;
-      nothing_is_lost = c.in-Ok.ensures.nothing_is_lost;
-    }
-
-pub returns-in-Err : goal.returns-in-Err
-returns-in-Err g c =
-    let old = c.args.self.now in
-    let m = makings g.E.Edition g.R.SharingRule old.basis in
-    let gathered = c.gather-takers.ensures in
-    record {
-      pinned = ap (λ (r : Refusal). Err r) c.at.ensures
-          ∙ pass_told m (view old.tables) (sound_from_fact (view old.tables) old.sound) c.args.number c.args.system c.requires c.deref.result.now c.deref.ensures.value
-          c.gather-takers.result.count c.gather-takers.result.kws c.gather-takers.result.mwhs gathered.count gathered.kws gathered.mwhs
-          (Err c.in-Err.refusal) c.in-Err.ensures.pinned;
-      nothing_is_lost = tt;
-    }
+    let s = view old.tables in
+    let gathered = c.gather-takers in
+    let same : c.map_err.result ≡ placed c.args.number c.work_out_pass.result = search rules in
+    same
+    ∙ pass_told m s (sound_from_fact s old.sound) c.args.number c.args.system c.requires c.deref.result.now c.deref.ensures.value
+        gathered.result.count gathered.result.kws gathered.result.mwhs gathered.ensures.count gathered.ensures.kws gathered.ensures.mwhs
+        c.work_out_pass.result c.work_out_pass.ensures.pinned
