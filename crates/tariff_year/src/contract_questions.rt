@@ -100,13 +100,7 @@ impl<E: Edition + Drop, R: SharingRule + Drop> TariffYear<E, R> {
         requires { Billable self.now.basis.calendar.year contract month }
         ensures { result ≡ contract_month (makings E.Edition R.SharingRule self.now.basis) month contract }
     {
-        let portions = self.portions_of(contract.yearly);
-        let portion = portions[(month - 1) as usize];
-        let (before, within, after) = self
-            .basis
-            .calendar
-            .month_days(contract.first, contract.last, month)
-            .unwrap();
+        let (portion, (before, within, after)) = self.month_to_share(contract, month);
         let cents = share_out::<R, 3>(&self.basis.rule, portion, &[before, within, after]).unwrap();
         ContractMonth {
             before: DayShare {

@@ -10,8 +10,7 @@ unwrap-cents-requires g c =
     let old = c.args.self.now in
     let m = makings g.E.Edition g.R.SharingRule old.basis in
     let law = lawful g.E.Edition g.R.SharingRule old.basis g.met.R.SharingRule.twelve (g.met.R.SharingRule.sharing old.basis.rule) (g.met.E.Edition.hundred old.basis.edition) in
-    let days = sym c.month_days.ensures.told ∙ c.unwrap-before.ensures in
-    let shared = month_shared_out m law c.args.contract c.args.month c.requires c.portions_of-portions.result c.unwrap-before.result c.portions_of-portions.ensures days in
+    let shared = month_shared_out m law c.args.contract c.args.month c.requires c.month_to_share-portion.result.0 c.month_to_share-portion.result.1 c.month_to_share-portion.ensures.portion c.month_to_share-portion.ensures.days in
     ap (λ (r : Result (List ℕ) Refusal). is_ok r) (c.share_out.ensures.pinned ∙ shared)
 
 pub returns : goal.returns
@@ -19,5 +18,4 @@ returns g c =
     let old = c.args.self.now in
     let m = makings g.E.Edition g.R.SharingRule old.basis in
     let law = lawful g.E.Edition g.R.SharingRule old.basis g.met.R.SharingRule.twelve (g.met.R.SharingRule.sharing old.basis.rule) (g.met.E.Edition.hundred old.basis.edition) in
-    let days = sym c.month_days.ensures.told ∙ c.unwrap-before.ensures in
-    month_told m law c.args.contract c.args.month c.requires c.portions_of-portions.result c.unwrap-before.result c.unwrap-cents.result c.portions_of-portions.ensures days (sym c.share_out.ensures.pinned ∙ c.unwrap-cents.ensures)
+    month_told m law c.args.contract c.args.month c.requires c.month_to_share-portion.result.0 c.month_to_share-portion.result.1 c.unwrap-cents.result c.month_to_share-portion.ensures.portion c.month_to_share-portion.ensures.days (sym c.share_out.ensures.pinned ∙ c.unwrap-cents.ensures)
