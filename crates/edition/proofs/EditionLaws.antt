@@ -1,7 +1,8 @@
 -- What follows from the law of an edition, for every edition.
 use Rattle.std.proofs.Common.{◌≡◌, ℕ, true, ◌⊎◌, ⊎_elim, arith}
 use Rattle.std.proofs.lemmas.Bool.Decides.{nat_tests}
-use Rattle.edition.specs.Editions.{Known, Percent, HundredLaw, is_carrier}
+use Rattle.edition.specs.Carriers.{is_carrier}
+use Rattle.edition.specs.Editions.{Known, Percent, HundredLaw}
 use Rattle.edition.specs.Laws.{PercentagesAddUp, NoPercentageAbove100}
 
 four_carriers : (carrier : ℕ) → is_carrier carrier ≡ true → (carrier ≡ 1) ⊎ ((carrier ≡ 2) ⊎ ((carrier ≡ 3) ⊎ (carrier ≡ 4)))

@@ -1,3 +1,2 @@
 mod EditionLaws
 mod Entering
-mod Lookups

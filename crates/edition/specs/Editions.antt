@@ -1,8 +1,9 @@
 -- What every edition answers, and the law that it keeps.
-use Rattle.std.specs.Prelude.{◌≡◌, ℕ, ◌+◌, Bool, true, cond, ◌&&◌, List, [], ◌∷◌, Ok, Err, Result, nat_le}
+use Rattle.std.specs.Prelude.{◌≡◌, ℕ, ◌+◌, Bool, true, cond, List, [], ◌∷◌, Ok, Err, Result}
 use Rattle.refusal.specs.declared.ground.Ground.TheVariants.{OutOfBounds, UnknownCategory}
 use Rattle.refusal.specs.declared.refusal.Refusal.{Refusal}
 use Rattle.refusal.specs.Refusals.{refuse}
+use Rattle.edition.specs.Carriers.{is_carrier}
 
 -- the categories that an edition knows
 abbrev pub Known : Type 0
@@ -17,10 +18,6 @@ abbrev pub HundredLaw : Known → Percent → Type 0
 HundredLaw known percent =
     (category : ℕ) → known category ≡ true →
     percent category 1 + percent category 2 + percent category 3 + percent category 4 ≡ 100
-
--- The carriers are 1 to 4.
-abbrev pub is_carrier : ℕ → Bool
-is_carrier carrier = nat_le 1 carrier && nat_le carrier 4
 
 -- What an edition answers for a category and a carrier: first it refuses what is no carrier, then a category that it
 -- does not know.

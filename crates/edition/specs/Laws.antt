@@ -1,6 +1,7 @@
 -- What follows from the law of an edition, for every edition with this table.
 use Rattle.std.specs.Prelude.{◌≡◌, ℕ, ◌≤◌, true, sum}
-use Rattle.edition.specs.Editions.{Known, Percent, is_carrier, percentages}
+use Rattle.edition.specs.Carriers.{is_carrier}
+use Rattle.edition.specs.Editions.{Known, Percent, percentages}
 
 -- The list of the four percentages of a known category adds up to 100.
 abbrev pub PercentagesAddUp : Known → Percent → Type 0

@@ -1,3 +1,4 @@
+pub mod Carriers
 pub mod Edition2013
 pub mod Editions
 pub mod Entered

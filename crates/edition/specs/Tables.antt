@@ -1,11 +1,10 @@
 -- What a table of rows means: one row a category, four carriers each.
-use Rattle.std.specs.Prelude.{ℕ, ◌+◌, ◌-◌, Bool, true, cond, ◌&&◌, List, [], ◌∷◌, is_some, Some, None, Option, ◌==◌, slice_index}
+use Rattle.std.specs.Prelude.{ℕ, ◌+◌, ◌-◌, Bool, true, ◌&&◌, List, [], ◌∷◌, find, is_some, Some, None, Option, ◌==◌, slice_index}
 use Rattle.edition.specs.declared.table.Row.{Row}
 
 -- the first row of this category, if there is one
 abbrev pub row_of : List Row → ℕ → Option Row
-row_of [] category = None
-row_of (row ∷ rows) category = cond (row.category == category) (Some row) (row_of rows category)
+row_of rows category = find (λ row. row.category == category) rows
 
 -- The table knows the categories that have a row.
 abbrev pub known_in : List Row → ℕ → Bool

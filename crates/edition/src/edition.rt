@@ -2,6 +2,7 @@
 ghost use Rattle.std.specs.Prelude.{◌≡◌, ℕ, Bool};
 ghost use Rattle.edition.specs.Editions.{HundredLaw, percent_answer, row_answer};
 
+use crate::carrier::{CARRIERS, Carrier};
 use refusal::Refusal;
 
 // A table of percentages: which categories there are, and how much of each goes by which carrier.
@@ -25,13 +26,13 @@ pub trait Edition {
 }
 
 // The percentages of the category on the carriers 1 to 4, in their order.
-pub fn percentages<E: Edition>(edition: &E, category: u64) -> Result<[u64; 4], Refusal>
+pub fn percentages<E: Edition>(edition: &E, category: u64) -> Result<[u64; CARRIERS], Refusal>
     ensures { result ≡ row_answer (E.known edition.now) (E.percent edition.now) category }
 {
     Ok([
-        edition.percent(category, 1)?,
-        edition.percent(category, 2)?,
-        edition.percent(category, 3)?,
-        edition.percent(category, 4)?,
+        edition.percent(category, Carrier::ContractedKw.number())?,
+        edition.percent(category, Carrier::Kwmax.number())?,
+        edition.percent(category, Carrier::Kwh.number())?,
+        edition.percent(category, Carrier::ReckonedKw.number())?,
     ])
 }

@@ -5,6 +5,7 @@ ghost use Rattle.edition.specs.Tables.{known_in, percent_in, row_sum};
 ghost use Rattle.std.proofs.ByRecursion.{All-from_get_or};
 ghost use Rattle.edition.specs.WholeRows.{hundred_in};
 
+use crate::carrier::CARRIERS;
 use crate::edition::Edition;
 use crate::table::{Row, adds_up, is_known, percent_in};
 use refusal::{Ground, Refusal};
@@ -30,7 +31,7 @@ impl EnteredEdition {
     {
         let empty = Row {
             category: 0,
-            percentages: [0; 4],
+            percentages: [0; CARRIERS],
         };
         EnteredEdition {
             rows: [empty; MOST_CATEGORIES],
@@ -39,7 +40,7 @@ impl EnteredEdition {
     }
 
     // Adds a category with its percentages on the carriers 1 to 4; what is refused changes nothing.
-    pub fn enter(&mut self, category: u64, percentages: [u64; 4]) -> Result<(), Refusal>
+    pub fn enter(&mut self, category: u64, percentages: [u64; CARRIERS]) -> Result<(), Refusal>
         ensures told { result ≡ enter_answer (take self.old.count self.old.rows) (record { category = category; percentages = percentages }) }
         ensures after { take self.new.count self.new.rows ≡ rows_after (take self.old.count self.old.rows) (record { category = category; percentages = percentages }) }
     {

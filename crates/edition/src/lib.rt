@@ -1,16 +1,19 @@
 // Editions: which categories there are, and the percentage of each on the four carriers.
 #![tactic(auto)]
 
+mod carrier;
 mod edition;
 mod edition_2013;
 mod entered;
 mod laws;
 mod table;
 
+pub use carrier::{CARRIERS, Carrier};
 pub use edition::{Edition, percentages};
 pub use edition_2013::Edition2013;
 pub use entered::EnteredEdition;
 pub use laws::edition_laws_hold;
+pub use table::add_up_to_100;
 
 #[cfg(test)]
 mod tests {
