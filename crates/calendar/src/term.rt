@@ -6,6 +6,7 @@ ghost use Rattle.calendar.specs.Terms.{is_term, split_days, term_answer};
 use crate::year::CalendarYear;
 use refusal::{Ground, Refusal};
 
+// A first and a last date are two numbers here, and no struct: any two are taken, and judged against the year.
 impl CalendarYear {
     // How many days of the month lie before the first date, from the first to the last, and after the last.
     pub fn month_days(self, first: u64, last: u64, month: u64) -> Result<(u64, u64, u64), Refusal>
@@ -29,7 +30,8 @@ impl CalendarYear {
 
 // Of the first `days` days of the month: those before `first`, those from `first` to `last`, and those after `last`.
 fn counted_days(month: u64, days: u64, first: u64, last: u64) -> (u64, u64, u64)
-    requires { (month ≤ 12) × (first ≤ last) }
+    requires known { month ≤ 12 }
+    requires ordered { first ≤ last }
     ensures { result ≡ split_days month days first last }
 {
     let start = month * 100;

@@ -62,10 +62,8 @@ impl CalendarYear {
         ensures told { result ≡ is_day self.year date }
         ensures meant { Decides result (DayOfYear self.year date) }
     {
-        match self.days_of_month(month_of(date)) {
-            Ok(days) => date % 100 >= 1 && date % 100 <= days,
-            Err(_) => false,
-        }
+        self.days_of_month(month_of(date))
+            .is_ok_and(|days| date % 100 >= 1 && date % 100 <= days)
     }
 }
 

@@ -1,14 +1,14 @@
-use Rattle.std.proofs.Common.{◌≡◌, true, Ok, sym, ap, ◌∙◌}
+use Rattle.std.proofs.Common.{◌≡◌, ◌≤◌, true, ◌∙◌, arith, rules}
+use Rattle.std.proofs.lemmas.Bool.Decides.{nat_tests}
+use Rattle.calendar.specs.Days.{days_of_month}
 use Rattle.calendar.specs.Terms.{is_term}
-use Rattle.calendar.proofs.TermAnswers.{term_accepts, term_whole}
+use Rattle.calendar.proofs.SplitDays.{counts_add_up}
 use Rattle.calendar.proofs.year.CalendarYear.month_days.Goals as goal
 
-pub returns : goal.returns
-returns c =
-    let month = c.in_ok-days.ensures.told in
-    let term : is_term c.args.self.year c.args.first c.args.last ≡ true = sym c.if-not-is_term.ensures in
-    let counted = c.counted_days.ensures in
-    record {
-      told = ap Ok counted ∙ term_accepts c.args.self.year c.args.first c.args.last c.args.month _ month term;
-      whole = term_whole c.args.self.year c.args.first c.args.last c.args.month _ month term _ counted;
-    }
+pub returns-clause-whole : goal.returns-clause-whole
+returns-clause-whole c =
+    let term : is_term c.args.self.year c.args.first c.args.last ≡ true = search rules in
+    let ordered : c.args.first ≤ c.args.last = grind (arith, nat_tests) in
+    let days : c.in_ok-days.days ≡ days_of_month c.args.self.year c.args.month = search rules in
+    let whole = counts_add_up c.args.month c.args.first c.args.last ordered c.in_ok-days.days in
+    rw c.counted_days.ensures (whole ∙ days)
