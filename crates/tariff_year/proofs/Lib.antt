@@ -14,7 +14,6 @@ pub mod HandedOn
 pub mod Holding
 pub mod InTurn
 pub mod Making
-pub mod MeteredLines
 pub mod MonthShares
 pub mod OneTurn
 pub mod Ways

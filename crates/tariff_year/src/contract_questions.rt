@@ -8,13 +8,13 @@ ghost use Rattle.tariff_year.specs.Lines.{Billable};
 ghost use Rattle.tariff_year.specs.Questions.{asked, contract_month, metering_asked, month_asked, portions_asked};
 ghost use Rattle.tariff_year.specs.Years.{makings};
 
-use crate::bills::{KWH, KWMAX, tariff};
+use crate::bills::tariff;
 use crate::look_up::bound;
 use crate::questions::found;
 use crate::systems::LARGEST_NUMBER;
 use crate::year::TariffYear;
 use billing::{Rate, metered_line};
-use edition::Edition;
+use edition::{Carrier, Edition};
 use refusal::{Ground, Refusal};
 use sharing::{SharingRule, share_out};
 use year_model::Contract;
@@ -69,8 +69,8 @@ impl<E: Edition + Drop, R: SharingRule + Drop> TariffYear<E, R> {
         ensures { result ≡ metering_asked (view self.now.tables) number }
     {
         let contract = self.contract_record(number)?;
-        let by_kwmax = tariff(&self.tables, contract, KWMAX);
-        let by_kwh = tariff(&self.tables, contract, KWH);
+        let by_kwmax = tariff(&self.tables, contract, Carrier::Kwmax);
+        let by_kwh = tariff(&self.tables, contract, Carrier::Kwh);
         let kwh = contract.reading - contract.opening;
         Ok(Metering {
             kwmax: Metered {

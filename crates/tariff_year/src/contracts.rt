@@ -59,7 +59,8 @@ impl<E: Edition + Drop, R: SharingRule + Drop> TariffYear<E, R> {
             return Err(Refusal::of(Ground::TableFull));
         }
         let fixing = supplier.fixing.ok_or(Refusal::of(Ground::SystemNotFixed))?;
-        let yearly = yearly_charge(fee, kw, fixing.tariffs[0], fixing.tariffs[3])?;
+        let [contracted, _, _, reckoned] = fixing.tariffs;
+        let yearly = yearly_charge(fee, kw, contracted, reckoned)?;
         self.tables.contracts.push_reserved(Contract {
             system,
             kw,

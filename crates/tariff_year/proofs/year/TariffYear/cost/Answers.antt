@@ -1,4 +1,4 @@
-use Rattle.std.proofs.Common.{◌+◌, vec_items, sym, arith, rules}
+use Rattle.std.proofs.Common.{◌+◌, vec_items, arith, rules}
 use Rattle.year_model.specs.Calls.{call_cost}
 use Rattle.year_model.specs.State.{State, view, with_net, with_system}
 use Rattle.year_model.specs.Systems.{standing_at}
