@@ -1,5 +1,6 @@
 -- What a limit on the numbers of a list says of their sum.
 use Rattle.std.proofs.Common.{◌≡◌, ℕ, ◌+◌, ◌*◌, ◌<◌, ◌≤◌, true, false, not, ◌||◌, eqb, ltb, List, [], ◌∷◌, length, get_or, drop, sum, sym, refl, ap, ◌∙◌, add-mul, one-mul, add-one, arith}
+use Rattle.std.specs.List.{list_any}
 use Rattle.std.proofs.lemmas.List.{at_drop_more}
 use Rattle.std.proofs.lemmas.List.Sums.{sum_by-cons}
 use Rattle.std.proofs.lemmas.Bool.{or_parts, ltb-false, lt-ltb, le-ltb}
@@ -32,3 +33,8 @@ sum_is_zero (x ∷ xs) =
     let rest = sum_is_zero xs in
     let whole = sum_by-cons (λ x. x) x xs in
     grind (arith, nat_tests)
+
+-- the search by a test of each number
+pub above_any : (limit : ℕ) (xs : List ℕ) → list_any (λ x. ltb limit x) xs ≡ above limit xs
+above_any limit [] = refl
+above_any limit (x ∷ xs) = ap (λ b. ltb limit x || b) (above_any limit xs)

@@ -11,7 +11,7 @@ pub fn share_out<R: SharingRule, const N: usize>(
     amount: u64,
     weights: &[u64],
 ) -> Result<[u64; N], Refusal>
-    ensures pinned { result ≡ share_out_answer N R.longest (R.share rule.now) amount weights.now }
+    ensures pinned { result ≡ share_out_answer N R.LONGEST (R.share rule.now) amount weights.now }
     ensures whole { IfOk result (λ shares. sum shares ≡ amount) }
 {
     if weights.len() > N {

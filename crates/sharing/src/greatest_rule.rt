@@ -1,12 +1,12 @@
 // The rule of the greatest remainder: shares are rounded down, and the euros left over go one each to the
 // greatest remainders, the lower position first among equals.
-ghost use Rattle.std.specs.Prelude.{◌≡◌, ◌*◌, ◌%◌, ◌<◌, ◌≤◌, length, sum};
+ghost use Rattle.std.specs.Prelude.{◌≡◌, ◌*◌, ◌/◌, sum_by};
 ghost use Rattle.sharing.specs.Greatest.{ahead, greatest_share, left_over, rank};
-ghost use Rattle.sharing.specs.Sharing.{Sharable};
 ghost use Rattle.sharing.specs.GreatestLaw.{greatest_law};
-ghost use Rattle.std.proofs.Common.{rules};
+ghost use Rattle.std.proofs.Math.Nat.{le-add_right};
 
-use crate::rule::{SharingRule, admitted, rounded_part};
+use crate::admitted::Admitted;
+use crate::rule::SharingRule;
 use refusal::Refusal;
 
 #[derive(Clone, Copy)]
@@ -15,22 +15,18 @@ pub struct GreatestRemainder;
 impl SharingRule for GreatestRemainder {
     const LONGEST: usize = 20;
 
-    ghost longest = { 20 };
+    ghost LONGEST = { 20 };
 
     ghost share = { λ _. greatest_share };
 
-    ghost twelve = { Prim.search rules };
+    ghost twelve = { le-add_right 12 8 };
 
     ghost sharing = { λ rule. greatest_law 20 };
 
-    fn longest_list() -> usize {
-        Self::LONGEST
-    }
-
     fn share(&self, amount: u64, weights: &[u64], position: usize) -> Result<u64, Refusal> {
-        let total = admitted(Self::LONGEST, amount, weights, position)?;
-        let rounded = rounded_part(amount, weights[position], total);
-        if rank_of(amount, weights, position, total) < euros_left(amount, weights, total) {
+        let asked = Admitted::by(Self::LONGEST, amount, weights, position)?;
+        let rounded = asked.part_of(asked.own_weight());
+        if asked.rank() < asked.euros_left() {
             Ok(rounded + 1)
         } else {
             Ok(rounded)
@@ -38,34 +34,36 @@ impl SharingRule for GreatestRemainder {
     }
 }
 
-// The euros left over once every share is rounded down.
-fn euros_left(amount: u64, weights: &[u64], total: u64) -> u64
-    requires input { Sharable 20 amount weights.now }
-    requires whole { total ≡ sum weights.now }
-    ensures { result ≡ left_over amount weights.now }
-{
-    let mut left = amount;
-    for weight in weights {
-        left -= rounded_part(amount, *weight, total);
+impl Admitted<'_> {
+    // The euros left over once every share is rounded down.
+    fn euros_left(&self) -> u64
+        ensures { result ≡ left_over self.now.amount self.now.weights.now }
+    {
+        self.amount - self.rounded_parts()
     }
-    left
-}
 
-// How many positions are served before `position`.
-fn rank_of(amount: u64, weights: &[u64], position: usize, total: u64) -> u64
-    requires input { Sharable 20 amount weights.now }
-    requires whole { total ≡ sum weights.now }
-    requires within { position < length weights.now }
-    ensures { result ≡ rank amount weights.now position }
-{
-    let own = remainder_of(amount, weights[position], total);
-    let mut before = 0;
-    for (other, weight) in weights.iter().enumerate() {
-        if is_ahead(remainder_of(amount, *weight, total), other, own, position) {
-            before += 1;
-        }
+    // The parts of all weights, each rounded down, together.
+    fn rounded_parts(&self) -> u64
+        ensures { result ≡ sum_by (λ weight. self.now.amount * weight / self.now.total) self.now.weights.now }
+    {
+        self.weights
+            .iter()
+            .map(|weight| self.part_of(*weight))
+            .sum()
     }
-    before
+
+    // How many positions are served before the one that is asked for.
+    fn rank(&self) -> u64
+        ensures { result ≡ rank self.now.amount self.now.weights.now self.now.position }
+    {
+        let own = self.remainder_of(self.own_weight());
+        self.weights
+            .iter()
+            .map(|weight| self.remainder_of(*weight))
+            .enumerate()
+            .filter(|(other, theirs)| is_ahead(*theirs, *other, own, self.position))
+            .count() as u64
+    }
 }
 
 // Whether the position `other` is served before `position`, by their remainders.
@@ -73,12 +71,4 @@ fn is_ahead(theirs: u64, other: usize, own: u64, position: usize) -> bool
     ensures { result ≡ ahead theirs other own position }
 {
     theirs > own || theirs == own && other < position
-}
-
-// What rounding down takes from the part of `amount` that `weight` has of `total`.
-fn remainder_of(amount: u64, weight: u64, total: u64) -> u64
-    requires { (amount ≤ 5_000_000_000) × ((weight ≤ total) × ((total ≤ 1_000_000_000) × (0 < total))) }
-    ensures { result ≡ amount * weight % total }
-{
-    amount * weight % total
 }

@@ -1,6 +1,7 @@
 // Sharing rules: an amount divided over a list of weights in whole euros, told share by share.
 #![tactic(auto)]
 
+mod admitted;
 mod all_shares;
 mod greatest_rule;
 mod laws;
@@ -8,11 +9,12 @@ mod limits;
 mod rule;
 mod running_rule;
 
+pub use admitted::{LARGEST_AMOUNT, LARGEST_TOTAL};
 pub use all_shares::share_out;
 pub use greatest_rule::GreatestRemainder;
 pub use laws::sharing_laws_hold;
 pub use limits::any_above;
-pub use rule::{LARGEST_AMOUNT, LARGEST_TOTAL, SharingRule};
+pub use rule::SharingRule;
 pub use running_rule::Running;
 
 #[cfg(test)]

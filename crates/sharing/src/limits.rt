@@ -6,10 +6,5 @@ ghost use Rattle.sharing.specs.Limits.{above};
 pub fn any_above(limit: u64, numbers: &[u64]) -> bool
     ensures { result ≡ above limit numbers.now }
 {
-    for number in numbers {
-        if *number > limit {
-            return true;
-        }
-    }
-    false
+    numbers.iter().any(|number| *number > limit)
 }

@@ -11,7 +11,7 @@ use Rattle.sharing.proofs.all_shares.share_out.Goals as goal
 
 pub loop-position-preserved : goal.loop-position-preserved
 loop-position-preserved g c =
-    let longest = g.R.SharingRule.longest in
+    let longest = g.R.SharingRule.LONGEST in
     let share = g.R.SharingRule.share c.args.rule.now in
     let ws = c.args.weights.now in
     let i = c.loop-position.position in
@@ -23,7 +23,7 @@ loop-position-preserved g c =
 
 pub returns : goal.returns
 returns g c =
-    let longest = g.R.SharingRule.longest in
+    let longest = g.R.SharingRule.LONGEST in
     let share = g.R.SharingRule.share c.args.rule.now in
     let law = g.met.R.SharingRule.sharing c.args.rule.now in
     let amount = c.args.amount in

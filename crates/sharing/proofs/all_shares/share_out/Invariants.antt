@@ -6,4 +6,4 @@ use Rattle.sharing.proofs.all_shares.share_out.Given as goal
 abbrev pub invariant-loop-position : goal.invariant-loop-position
 invariant-loop-position g l =
     (l.shares ≡ map (g.R.SharingRule.share l.rule l.amount l.weights) (range_with_len 0 l.position) ++ replicate (g.row.N - l.position) 0)
-    × (0 < l.position → Sharable g.R.SharingRule.longest l.amount l.weights)
+    × (0 < l.position → Sharable g.R.SharingRule.LONGEST l.amount l.weights)

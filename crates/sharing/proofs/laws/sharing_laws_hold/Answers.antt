@@ -3,7 +3,7 @@ use Rattle.sharing.proofs.laws.sharing_laws_hold.Goals as goal
 
 pub returns : goal.returns
 returns g c =
-    let longest = g.R.SharingRule.longest in
+    let longest = g.R.SharingRule.LONGEST in
     let share = g.R.SharingRule.share c.args.rule.now in
     let law = g.met.R.SharingRule.sharing c.args.rule.now in
     record {

@@ -1,16 +1,10 @@
-use Rattle.std.proofs.Common.{sym, ◌∙◌}
-use Rattle.std.proofs.lemmas.List.{at_drop_all}
-use Rattle.sharing.specs.Limits.{above}
-use Rattle.sharing.proofs.Above.{above_here, above_later}
+use Rattle.std.proofs.Common.{◌≡◌, ltb, ◌∙◌, rules, tests}
+use Rattle.std.proofs.lemmas.Iterator.{YieldsList-from_slice}
+use Rattle.std.proofs.lemmas.Iterator.Search.{any_from_yields_List}
+use Rattle.sharing.proofs.Above.{above_any}
 use Rattle.sharing.proofs.limits.any_above.Goals as goal
 
-pub returns-then-number-limit : goal.returns-then-number-limit
-returns-then-number-limit c =
-    sym (above_here c.args.limit c.args.numbers.now c.loop-number.number-index c.loop-number-test.true c.if-number-limit.true) ∙ c.loop-number.invariant
-
-pub loop-number-preserved : goal.loop-number-preserved
-loop-number-preserved c =
-    sym (above_later c.args.limit c.args.numbers.now c.loop-number.number-index c.loop-number-test.true c.if-number-limit.false) ∙ c.loop-number.invariant
-
 pub returns : goal.returns
-returns c = sym (at_drop_all (above c.args.limit) c.args.numbers.now c.loop-number.number-index c.loop-number-test.false) ∙ c.loop-number.invariant
+returns c =
+    any_from_yields_List (λ x. ltb c.args.limit x) _ _ _ c.any.ensures.ran (YieldsList-from_slice c.args.numbers.now cc) (λ x b q k. search (rules, tests))
+    ∙ above_any c.args.limit c.args.numbers.now
