@@ -1,20 +1,10 @@
 -- What a limit on the numbers of a list says of their sum.
-use Rattle.std.proofs.Common.{◌≡◌, ℕ, ◌+◌, ◌*◌, ◌<◌, ◌≤◌, true, false, not, ◌||◌, eqb, ltb, List, [], ◌∷◌, length, get_or, drop, sum, sym, refl, ap, ◌∙◌, add-mul, one-mul, add-one, arith}
+use Rattle.std.proofs.Common.{◌≡◌, ℕ, ◌*◌, ◌≤◌, false, not, ◌||◌, eqb, ltb, List, [], ◌∷◌, length, sum, sym, refl, ap, ◌∙◌, add-mul, one-mul, add-one, arith}
 use Rattle.std.specs.List.{list_any}
-use Rattle.std.proofs.lemmas.List.{at_drop_more}
 use Rattle.std.proofs.lemmas.List.Sums.{sum_by-cons}
-use Rattle.std.proofs.lemmas.Bool.{or_parts, ltb-false, lt-ltb, le-ltb}
+use Rattle.std.proofs.lemmas.Bool.{or_parts, ltb-false}
 use Rattle.std.proofs.lemmas.Bool.Decides.{nat_tests}
 use Rattle.sharing.specs.Limits.{above}
-
--- one step of the search, over what is left of the list
-pub above_here : (limit : ℕ) (xs : List ℕ) (i : ℕ) → i < length xs → limit < get_or xs i 0 → above limit (drop i xs) ≡ true
-above_here limit xs i h over =
-    at_drop_more (above limit) xs i 0 h ∙ ap (λ b. b || above limit (drop (i + 1) xs)) (lt-ltb limit (get_or xs i 0) over)
-
-pub above_later : (limit : ℕ) (xs : List ℕ) (i : ℕ) → i < length xs → get_or xs i 0 ≤ limit → above limit (drop i xs) ≡ above limit (drop (i + 1) xs)
-above_later limit xs i h under =
-    at_drop_more (above limit) xs i 0 h ∙ ap (λ b. b || above limit (drop (i + 1) xs)) (le-ltb limit (get_or xs i 0) under)
 
 -- where none is above the limit, the sum is bounded
 pub sum_bounded : (limit : ℕ) (xs : List ℕ) → above limit xs ≡ false → sum xs ≤ length xs * limit

@@ -1,5 +1,5 @@
 -- What an answer of a rule says of what it was asked.
-use Rattle.std.proofs.Common.{◌≡◌, ℕ, ◌<◌, ◌≤◌, List, length, Ok, sum, arith}
+use Rattle.std.proofs.Common.{◌≡◌, ℕ, ◌<◌, ◌≤◌, List, length, Ok, arith}
 use Rattle.std.proofs.lemmas.Bool.Decides.{nat_tests}
 use Rattle.sharing.specs.Sharing.{Meaning, Sharable, all_shares, share_answer}
 use Rattle.sharing.specs.ShareOut.{in_places, share_out_answer}
@@ -10,29 +10,8 @@ module _ (longest amount : ℕ) (ws : List ℕ) (i : ℕ) where
   sharable_from_ok share v e =
       record { small = grind (arith, nat_tests); light = grind (arith, nat_tests); short = grind (arith, nat_tests); some = grind (arith, nat_tests) }
 
-  pub within_from_ok : (share : Meaning) (v : ℕ) → Ok v ≡ share_answer longest share amount ws i → i < length ws
-  within_from_ok share v e = grind (arith, nat_tests)
-
   pub share_from_ok : (share : Meaning) (v : ℕ) → Ok v ≡ share_answer longest share amount ws i → v ≡ share amount ws i
   share_from_ok share v e = grind (arith, nat_tests)
-
-  pub ok_from_sharable : (share : Meaning) → Sharable longest amount ws → i < length ws → share_answer longest share amount ws i ≡ Ok (share amount ws i)
-  ok_from_sharable share s h = grind (arith, nat_tests)
-
--- What `admitted` promises of the total that it answers.
-pub record Admits (longest amount : ℕ) (ws : List ℕ) (i total : ℕ) : Type 0 where
-  pub sharable : Sharable longest amount ws
-  pub whole : total ≡ sum ws
-  pub within : i < length ws
-
-pub admits : (longest amount : ℕ) (ws : List ℕ) (i total : ℕ) → Ok total ≡ share_answer longest (λ _ ws _. sum ws) amount ws i → Admits longest amount ws i total
-admits longest amount ws i total e =
-    let share : Meaning = λ _ ws _. sum ws in
-    record {
-      sharable = sharable_from_ok longest amount ws i share total e;
-      whole = share_from_ok longest amount ws i share total e;
-      within = within_from_ok longest amount ws i share total e;
-    }
 
 -- All shares are told just where amount and list are sharable and there are places enough.
 module _ (places longest amount : ℕ) (ws : List ℕ) (share : Meaning) where

@@ -1,5 +1,5 @@
 -- A fold over numbers that adds them up, and gives up once the sum passes a limit.
-use Rattle.std.proofs.Common.{◌≡◌, ℕ, ◌+◌, ◌<◌, ◌≤◌, cond, ltb, List, [], ◌∷◌, ◌++◌, map, length, get_or, take, sum, Some, None, Option, Iter, Bor, sym, refl, ap, ◌∙◌, arith}
+use Rattle.std.proofs.Common.{◌≡◌, ℕ, ◌+◌, ◌<◌, ◌≤◌, cond, ltb, List, length, sum, Some, None, Option, Iter, Bor, sym, refl, ap, ◌∙◌, arith}
 use Rattle.std.specs.Iterator.{YieldsThen}
 use Rattle.std.specs.List.{FoldsTo, sum_by}
 use Rattle.std.specs.Option.{MatchOption}

@@ -1,23 +1,18 @@
 -- Sums and counts over a list, as sums and counts over its positions.
-use Rattle.std.proofs.Common.{◌≡◌, ℕ, zero, suc, ◌+◌, ◌*◌, ◌/◌, ◌%◌, ◌<◌, ◌≤◌, Bool, cond, List, map, length, get_or, take, sum, sym, refl, ap, ◌∙◌, zero-add, add-one, arith}
+use Rattle.std.proofs.Common.{◌≡◌, ℕ, ◌*◌, ◌/◌, ◌%◌, ◌<◌, ◌≤◌, cond, List, map, length, get_or, sum, sym, ap, ◌∙◌, zero-add, arith}
 use Rattle.std.specs.List.{count_by, enumerate_from, sum_by}
 use Rattle.std.proofs.lemmas.List.{get_or-map, length-map, take_all}
 use Rattle.std.proofs.lemmas.List.FromFn.{get_or-enumerate_from, length-enumerate_from}
-use Rattle.std.proofs.lemmas.List.Sums.{sum_by_more}
+use Rattle.std.proofs.lemmas.List.Sums.{sum-map}
 use Rattle.sharing.specs.Sharing.{sum_below}
 use Rattle.sharing.specs.Greatest.{ahead, rank, remainder, rounded_share}
 use Rattle.sharing.specs.GreatestLaw.{rounded_within}
-use Rattle.sharing.specs.Counting.{sum_same}
-
-front_counted : {X : Type 0} (f : X → ℕ) (xs : List X) (d : X) (n : ℕ) → n ≤ length xs → sum_by f (take n xs) ≡ sum_below (λ k. f (get_or xs k d)) n
-front_counted f xs d zero h = refl
-front_counted f xs d (suc n) h =
-    let before = front_counted f xs d n (omega arith) in
-    let more = ap (λ m. sum_by f (take m xs)) (sym (add-one n)) ∙ sum_by_more f xs n d h in
-    omega arith
+use Rattle.sharing.specs.Counting.{sum_same, sum_told}
 
 pub sum_by_counted : {X : Type 0} (f : X → ℕ) (xs : List X) (d : X) → sum_by f xs ≡ sum_below (λ k. f (get_or xs k d)) (length xs)
-sum_by_counted f xs d = ap (sum_by f) (sym (take_all (length xs) xs (omega arith))) ∙ front_counted f xs d (length xs) (omega arith)
+sum_by_counted f xs d =
+    let long = length-map xs f in
+    sym (sum-map f xs) ∙ ap sum (sym (take_all (length xs) (map f xs) (omega arith))) ∙ sum_told (λ k. f (get_or xs k d)) (map f xs) (length xs) (omega arith) (λ k l. get_or-map f xs k d 0 l)
 
 module _ (amount : ℕ) (ws : List ℕ) (total : ℕ) (whole : total ≡ sum ws) where
   -- the rounded parts of all weights together

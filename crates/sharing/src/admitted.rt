@@ -1,7 +1,7 @@
 // What a rule is asked and does not refuse.
 ghost use Rattle.std.specs.Prelude.{◌≡◌, ◌*◌, ◌/◌, ◌%◌, ◌<◌, ◌≤◌, if◌then◌else◌, length, IfOk, Some, None, sum, nat_lt, slice_index};
 ghost use Rattle.std.specs.Result.{result_map_both};
-ghost use Rattle.sharing.specs.Sharing.{share_answer};
+ghost use Rattle.sharing.specs.Sharing.{largest_amount, largest_total, share_answer};
 
 use refusal::{Ground, Refusal};
 
@@ -18,16 +18,16 @@ pub struct Admitted<'a> {
     pub weights: &'a [u64],
     pub position: usize,
     pub total: u64,
-    ghost small: { amount ≤ 5_000_000_000 },
+    ghost small: { amount ≤ largest_amount },
     ghost within: { position < length weights.now },
     ghost whole: { total ≡ sum weights.now },
-    ghost light: { total ≤ 1_000_000_000 },
+    ghost light: { total ≤ largest_total },
     ghost some: { 0 < total },
 }
 
 impl<'a> Admitted<'a> {
     // What a rule that takes `longest` weights is asked, where it does not refuse.
-    pub fn by(
+    pub fn new(
         longest: usize,
         amount: u64,
         weights: &'a [u64],
@@ -84,7 +84,7 @@ impl<'a> Admitted<'a> {
 
 // The total of the weights, or None where it passes `LARGEST_TOTAL`.
 fn bounded_total(weights: &[u64]) -> Option<u64>
-    ensures { result ≡ (if nat_lt 1_000_000_000 (sum weights.now) then None else Some (sum weights.now)) }
+    ensures { result ≡ (if nat_lt largest_total (sum weights.now) then None else Some (sum weights.now)) }
 {
     weights.iter().try_fold(0u64, |total, weight| {
         total

@@ -24,7 +24,7 @@ impl SharingRule for GreatestRemainder {
     ghost sharing = { λ rule. greatest_law 20 };
 
     fn share(&self, amount: u64, weights: &[u64], position: usize) -> Result<u64, Refusal> {
-        let asked = Admitted::by(Self::LONGEST, amount, weights, position)?;
+        let asked = Admitted::new(Self::LONGEST, amount, weights, position)?;
         let rounded = asked.part_of(asked.own_weight());
         if asked.rank() < asked.euros_left() {
             Ok(rounded + 1)

@@ -30,8 +30,8 @@ mod tests {
         weights: &[u64; 3],
         shares: &[u64; 3],
     ) {
-        for position in 0..3 {
-            assert_eq!(rt; rule.share(amount, weights, position), Ok(shares[position]));
+        for (position, share) in shares.iter().enumerate() {
+            assert_eq!(rt; rule.share(amount, weights, position), Ok(*share));
         }
     }
 

@@ -23,7 +23,7 @@ impl SharingRule for Running {
     ghost sharing = { λ rule. running_law 32 };
 
     fn share(&self, amount: u64, weights: &[u64], position: usize) -> Result<u64, Refusal> {
-        let asked = Admitted::by(Self::LONGEST, amount, weights, position)?;
+        let asked = Admitted::new(Self::LONGEST, amount, weights, position)?;
         Ok(asked.running_part(asked.position + 1) - asked.running_part(asked.position))
     }
 }

@@ -1,5 +1,4 @@
-use Rattle.std.proofs.Common.{arith, rules}
-use Rattle.std.proofs.lemmas.Bool.Decides.{nat_tests}
+use Rattle.std.proofs.Common.{rules}
 use Rattle.sharing.proofs.Bounding.{bounded_sum}
 use Rattle.sharing.proofs.admitted.bounded_total.Goals as goal
 

@@ -37,6 +37,6 @@ returns g c =
     ∙ ap (λ n. all_shares share amount ws ++ replicate (g.row.N - n) 0) (sym long) in
     let whole = sum_placed (all_shares share amount ws) (g.row.N - length (all_shares share amount ws)) in
     record {
-      pinned = ap Ok filled ∙ shared_out_from_sharable g.row.N longest amount ws share sharable some c.if-weights.false;
+      pinned = ap Ok filled ∙ shared_out_from_sharable g.row.N longest amount ws share sharable some (omega arith);
       whole = ap sum filled ∙ whole ∙ shares_add_up longest share law amount ws sharable;
     }

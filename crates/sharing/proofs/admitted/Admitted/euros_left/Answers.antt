@@ -1,4 +1,4 @@
-use Rattle.std.proofs.Common.{ℕ, ◌-◌, ap, ◌∙◌, arith}
+use Rattle.std.proofs.Common.{◌-◌, ap, ◌∙◌, arith}
 use Rattle.sharing.proofs.Counted.{parts_counted, parts_within}
 use Rattle.sharing.proofs.admitted.Admitted.euros_left.Goals as goal
 

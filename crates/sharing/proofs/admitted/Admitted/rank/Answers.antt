@@ -1,4 +1,4 @@
-use Rattle.std.proofs.Common.{ℕ, ◌*◌, ◌%◌, Bool, map, sum, ◌∙◌, of_calls, rules, tests}
+use Rattle.std.proofs.Common.{ℕ, ◌*◌, ◌%◌, Bool, map, ◌∙◌, of_calls, rules, tests}
 use Rattle.std.specs.List.{enumerate_from}
 use Rattle.std.proofs.lemmas.Iterator.{YieldsList-from_map, YieldsList-from_slice}
 use Rattle.std.proofs.lemmas.Iterator.Adapters.{serves_from_places}
