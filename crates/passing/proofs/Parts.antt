@@ -1,9 +1,11 @@
 -- What the takers get of one part.
-use Rattle.std.proofs.Common.{◌≡◌, ℕ, zero, suc, ◌+◌, ◌-◌, ◌<◌, ◌≤◌, Bool, cond, List, ◌∷◌, ◌++◌, map, length, replicate, sym, refl, ap, ◌∙◌, arith}
-use Rattle.std.specs.List.{range_with_len}
+use Rattle.std.proofs.Common.{◌≡◌, ℕ, zero, suc, ◌+◌, ◌-◌, ◌<◌, ◌≤◌, Bool, cond, eqb, List, [], ◌∷◌, ◌++◌, map, length, replicate, sum, sym, refl, ap, ◌∙◌, arith}
+use Rattle.std.specs.List.{list_all, range_with_len}
 use Rattle.std.proofs.lemmas.List.FromFn.{length-map-range_with_len}
 use Rattle.std.proofs.lemmas.List.{replicate-append-replicate}
+use Rattle.std.proofs.lemmas.List.Sums.{sum_by-cons}
 use Rattle.std.proofs.lemmas.Bool.{eq-eqb, ne_eqb}
+use Rattle.std.proofs.lemmas.Bool.Decides.{nat_tests}
 use Rattle.sharing.specs.Sharing.{Meaning}
 use Rattle.sharing.specs.ShareOut.{in_places}
 use Rattle.passing.specs.Passing.{column, of_part, most_takers}
@@ -32,3 +34,11 @@ empty_column share factor part ws e room =
 -- a part whose factor is not 0
 pub part_of_some : (share : Meaning) (factor part : ℕ) (ws : List ℕ) (i : ℕ) → 0 < factor → of_part share factor part ws i ≡ share part ws i
 part_of_some share factor part ws i some = ap (λ (b : Bool). cond {A = ℕ} b 0 (share part ws i)) (ne_eqb factor 0 (λ e. omega arith))
+
+-- all weights are 0 just where their sum is
+pub all_zero : (ws : List ℕ) → list_all (λ w. eqb w 0) ws ≡ eqb (sum ws) 0
+all_zero [] = refl
+all_zero (w ∷ ws) =
+    let rest = all_zero ws in
+    let whole = sum_by-cons (λ x. x) w ws in
+    grind (arith, nat_tests)

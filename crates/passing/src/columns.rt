@@ -7,6 +7,7 @@ ghost use Rattle.passing.specs.Passing.{column};
 use crate::pass::{Column, MOST_TAKERS};
 use refusal::Refusal;
 use sharing::{SharingRule, share_out};
+use std::array;
 
 // One part shared out over the takers' weights. Where the factor is 0 the rule is not asked.
 pub fn share_column<R: SharingRule>(
@@ -17,16 +18,14 @@ pub fn share_column<R: SharingRule>(
 ) -> Result<Column, Refusal>
     requires some { 0 < length weights.now }
     requires room { length weights.now ≤ 32 }
-    requires sharable { 0 < factor → Sharable R.longest part weights.now }
+    requires sharable { 0 < factor → Sharable R.LONGEST part weights.now }
     ensures { result ≡ Ok (column (R.share rule.now) factor part weights.now) }
 {
-    if factor == 0 {
-        return Ok(Column {
-            part,
-            shares: [0; MOST_TAKERS],
-        });
-    }
-    let shares = share_out::<R, MOST_TAKERS>(rule, part, weights)?;
+    let shares = if factor == 0 {
+        [0; MOST_TAKERS]
+    } else {
+        share_out::<R, MOST_TAKERS>(rule, part, weights)?
+    };
     Ok(Column { part, shares })
 }
 
@@ -36,9 +35,5 @@ pub fn added(kw: &[u64; MOST_TAKERS], mwh: &[u64; MOST_TAKERS]) -> [u64; MOST_TA
     requires mwh_bound { (k : ℕ) → slice_index mwh.now k ≤ 5_000_000_000 }
     ensures { result ≡ map (λ k. slice_index kw.now k + slice_index mwh.now k) (range_with_len 0 32) }
 {
-    let mut sums = [0; MOST_TAKERS];
-    for taker in 0..MOST_TAKERS {
-        sums[taker] = kw[taker] + mwh[taker];
-    }
-    sums
+    array::from_fn(|taker| kw[taker] + mwh[taker])
 }

@@ -1,11 +1,12 @@
 // A pass worked out on plain numbers: where every euro that stands at a system goes.
 #![tactic(auto)]
 
-mod bounds;
 mod columns;
+mod figures;
 mod pass;
 mod work_out;
 
+pub use figures::PassFigures;
 pub use pass::{Column, MOST_TAKERS, Pass};
 pub use work_out::work_out_pass;
 
@@ -17,23 +18,29 @@ mod tests {
     use std::test::Fail;
 
     fn ground_of(amount: u64, permille: u64, kws: &[u64], mwhs: &[u64]) -> Option<Ground> {
-        match work_out_pass(&Running, amount, permille, kws, mwhs) {
-            Ok(_) => None,
-            Err(refusal) => Some(refusal.ground),
-        }
+        let figures = PassFigures {
+            amount,
+            permille,
+            kws,
+            mwhs,
+        };
+        work_out_pass(&Running, &figures)
+            .err()
+            .map(|refusal| refusal.ground)
     }
 
     #[test]
     fn a_pass_is_worked_out(rt: HostRuntime) -> Result<(), Fail> {
-        let Ok(pass) = work_out_pass(&Running, 1001, 500, &[400, 600], &[1000, 3000]) else {
-            return Err(Fail::new("refused"));
+        let figures = PassFigures {
+            amount: 1001,
+            permille: 500,
+            kws: &[400, 600],
+            mwhs: &[1000, 3000],
         };
+        let pass = work_out_pass(&Running, &figures).map_err(|_| "refused")?;
         assert_eq!(rt; [pass.kw.part, pass.mwh.part], [500, 501]);
         assert_eq!(rt; [pass.received[0], pass.received[1]], [325, 676]);
-        let Ok(pass) = work_out_pass(&GreatestRemainder, 1001, 500, &[400, 600], &[1000, 3000])
-        else {
-            return Err(Fail::new("refused"));
-        };
+        let pass = work_out_pass(&GreatestRemainder, &figures).map_err(|_| "refused")?;
         assert_eq!(rt; [pass.received[0], pass.received[1]], [325, 676]);
         Ok(())
     }

@@ -11,6 +11,7 @@ pub struct Column {
 }
 
 // Taker 0 is the system's consumers, then come its couplings in order of entry; places past the takers hold 0.
+// Arrays of all places with a count beside them, since no pass allocates.
 #[derive(Clone, Copy)]
 pub struct Pass {
     pub takers: usize,

@@ -3,58 +3,46 @@ ghost use Rattle.std.specs.Prelude.{◌≡◌, ℕ, ◌<◌, length, IfOk, Ok, s
 ghost use Rattle.passing.specs.Passing.{Passable, pass_answer, worked_out};
 ghost use Rattle.passing.specs.Proportion.{WithinThreeEuros, denominator, numerator};
 
-use crate::bounds::{are_out_of_bounds, have_nothing_to_go_by};
 use crate::columns::{added, share_column};
+use crate::figures::PassFigures;
 use crate::pass::{MOST_TAKERS, Pass};
 use refusal::{Ground, Refusal};
 use sharing::{SharingRule, share_out};
 
 // Shares the amount over the permille and the rest of 1,000, then the first part by the takers' kW and the second by
 // their MWh.
-pub fn work_out_pass<R: SharingRule>(
-    rule: &R,
-    amount: u64,
-    permille: u64,
-    kws: &[u64],
-    mwhs: &[u64],
-) -> Result<Pass, Refusal>
-    ensures pinned { result ≡ pass_answer R.longest (R.share rule.now) amount permille kws.now mwhs.now }
-    ensures nothing_is_lost { IfOk result (λ pass. sum pass.received ≡ amount) }
-    ensures near_the_proportion { IfOk result (λ pass. (taker : ℕ) → taker < length kws.now → WithinThreeEuros (slice_index pass.received taker) (numerator amount permille kws.now mwhs.now taker) (denominator permille kws.now mwhs.now)) }
+pub fn work_out_pass<R: SharingRule>(rule: &R, figures: &PassFigures) -> Result<Pass, Refusal>
+    ensures pinned { result ≡ pass_answer R.LONGEST (R.share rule.now) figures.now.amount figures.now.permille figures.now.kws.now figures.now.mwhs.now }
+    ensures nothing_is_lost { IfOk result (λ pass. sum pass.received ≡ figures.now.amount) }
+    ensures near_the_proportion { IfOk result (λ pass. (taker : ℕ) → taker < length figures.now.kws.now → WithinThreeEuros (slice_index pass.received taker) (numerator figures.now.amount figures.now.permille figures.now.kws.now figures.now.mwhs.now taker) (denominator figures.now.permille figures.now.kws.now figures.now.mwhs.now)) }
 {
-    if are_out_of_bounds(amount, permille, kws, mwhs) {
+    if figures.are_out_of_bounds() {
         return Err(Refusal::of(Ground::OutOfBounds));
     }
-    if kws.len() > R::longest_list() || kws.len() > MOST_TAKERS {
+    let takers = figures.kws.len();
+    if takers > R::LONGEST || takers > MOST_TAKERS {
         return Err(Refusal::of(Ground::ListTooLong));
     }
-    if have_nothing_to_go_by(permille, kws, mwhs) {
+    if figures.have_nothing_to_go_by() {
         return Err(Refusal::of(Ground::NoWeight));
     }
-    divide(rule, amount, permille, kws, mwhs)
+    divide(rule, figures)
 }
 
 // The pass, where nothing stands against it.
-fn divide<R: SharingRule>(
-    rule: &R,
-    amount: u64,
-    permille: u64,
-    kws: &[u64],
-    mwhs: &[u64],
-) -> Result<Pass, Refusal>
-    requires { Passable R.longest amount permille kws.now mwhs.now }
-    ensures { result ≡ Ok (worked_out (R.share rule.now) amount permille kws.now mwhs.now) }
+fn divide<R: SharingRule>(rule: &R, figures: &PassFigures) -> Result<Pass, Refusal>
+    requires { Passable R.LONGEST figures.now.amount figures.now.permille figures.now.kws.now figures.now.mwhs.now }
+    ensures { result ≡ Ok (worked_out (R.share rule.now) figures.now.amount figures.now.permille figures.now.kws.now figures.now.mwhs.now) }
 {
+    let permille = figures.permille;
     let rest = 1_000 - permille;
-    let parts = share_out::<R, 2>(rule, amount, &[permille, rest])?;
-    let kw = share_column(rule, permille, parts[0], kws)?;
-    let mwh = share_column(rule, rest, parts[1], mwhs)?;
-    let received = added(&kw.shares, &mwh.shares);
-    let takers = kws.len();
+    let parts = share_out::<R, 2>(rule, figures.amount, &[permille, rest])?;
+    let kw = share_column(rule, permille, parts[0], figures.kws)?;
+    let mwh = share_column(rule, rest, parts[1], figures.mwhs)?;
     Ok(Pass {
-        takers,
+        takers: figures.kws.len(),
         kw,
         mwh,
-        received,
+        received: added(&kw.shares, &mwh.shares),
     })
 }

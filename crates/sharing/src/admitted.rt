@@ -13,7 +13,7 @@ pub const LARGEST_TOTAL: u64 = 1_000_000_000;
 
 // An amount to share, the weights and a position among them, with the total of the weights.
 #[derive(Clone, Copy)]
-pub struct Admitted<'a> {
+pub(crate) struct Admitted<'a> {
     pub amount: u64,
     pub weights: &'a [u64],
     pub position: usize,
@@ -27,7 +27,7 @@ pub struct Admitted<'a> {
 
 impl<'a> Admitted<'a> {
     // What a rule that takes `longest` weights is asked, where it does not refuse.
-    pub fn new(
+    pub(crate) fn new(
         longest: usize,
         amount: u64,
         weights: &'a [u64],
@@ -58,7 +58,7 @@ impl<'a> Admitted<'a> {
     }
 
     // The weight at the position.
-    pub fn own_weight(&self) -> u64
+    pub(crate) fn own_weight(&self) -> u64
         ensures told { result ≡ slice_index self.now.weights.now self.now.position }
         ensures within { result ≤ self.now.total }
     {
@@ -66,7 +66,7 @@ impl<'a> Admitted<'a> {
     }
 
     // The part of the amount that `weight` has of the total, rounded down.
-    pub fn part_of(&self, weight: u64) -> u64
+    pub(crate) fn part_of(&self, weight: u64) -> u64
         requires { weight ≤ self.now.total }
         ensures { result ≡ self.now.amount * weight / self.now.total }
     {
@@ -74,7 +74,7 @@ impl<'a> Admitted<'a> {
     }
 
     // What rounding down takes from that part.
-    pub fn remainder_of(&self, weight: u64) -> u64
+    pub(crate) fn remainder_of(&self, weight: u64) -> u64
         requires { weight ≤ self.now.total }
         ensures { result ≡ self.now.amount * weight % self.now.total }
     {

@@ -1,18 +1,10 @@
-use Rattle.std.proofs.Common.{◌≡◌, ℕ, ◌+◌, ◌-◌, ◌++◌, map, get_or, replicate, ap, ◌∙◌, arith}
-use Rattle.std.specs.List.{range_with_len}
-use Rattle.std.proofs.lemmas.List.{append-nil}
-use Rattle.sharing.proofs.Placing.{placed_more}
+use Rattle.std.proofs.Common.{ℕ, ◌+◌, get_or, arith, rules, tests}
+use Rattle.std.proofs.lemmas.List.FromFn.{fill_by_all}
+use Rattle.passing.proofs.Made.{made_at}
 use Rattle.passing.proofs.columns.added.Goals as goal
-
-pub loop-taker-preserved : goal.loop-taker-preserved
-loop-taker-preserved c =
-    let f : ℕ → ℕ = λ k. get_or c.args.kw.now k 0 + get_or c.args.mwh.now k 0 in
-    let more = placed_more f 32 c.loop-taker.taker (omega arith) in
-    let before = c.loop-taker.invariant in
-    cc
 
 pub returns : goal.returns
 returns c =
-    let f : ℕ → ℕ = λ k. get_or c.args.kw.now k 0 + get_or c.args.mwh.now k 0 in
-    let end : c.loop-taker.taker ≡ 32 = omega arith in
-    c.loop-taker.invariant ∙ ap (λ n. map f (range_with_len 0 n) ++ replicate (32 - n) 0) end ∙ append-nil (map f (range_with_len 0 32))
+    let both : ℕ → ℕ = λ k. get_or c.args.kw.now k 0 + get_or c.args.mwh.now k 0 in
+    let made = c.from_fn.ensures.items in
+    fill_by_all both c.from_fn.result 32 0 made.long (λ k h. made_at _ both _ (λ x y q call. search (rules, tests)) c.from_fn.result 0 32 made.each k 0 (omega arith) (omega arith))

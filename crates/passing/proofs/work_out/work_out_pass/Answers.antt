@@ -6,14 +6,14 @@ use Rattle.passing.proofs.work_out.work_out_pass.Goals as goal
 
 pub returns : goal.returns
 returns g c =
-    let longest = g.R.SharingRule.longest in
+    let longest = g.R.SharingRule.LONGEST in
     let share = g.R.SharingRule.share c.args.rule.now in
     let law = g.met.R.SharingRule.sharing c.args.rule.now in
     let twelve = g.met.R.SharingRule.twelve in
-    let amount = c.args.amount in
-    let permille = c.args.permille in
-    let kws = c.args.kws.now in
-    let mwhs = c.args.mwhs.now in
+    let amount = c.args.figures.now.amount in
+    let permille = c.args.figures.now.permille in
+    let kws = c.args.figures.now.kws.now in
+    let mwhs = c.args.figures.now.mwhs.now in
     let bounds : out_of_bounds amount permille kws mwhs ≡ false = search rules in
     let few : too_many_takers longest (length kws) ≡ false = search rules in
     let weight : nothing_to_go_by permille kws mwhs ≡ false = search rules in
