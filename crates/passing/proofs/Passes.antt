@@ -101,6 +101,17 @@ module _ (longest : ℕ) (share : Meaning) (law : SharingLaw longest share) (fac
       })
       (cases_lt 0 factor)
 
+-- Parts of the amount that can be shared by kW and by MWh.
+pub record Parted (longest permille : ℕ) (kws mwhs parts : List ℕ) : Type 0 where
+  pub kw : 0 < permille → Sharable longest (get_or parts 0 0) kws
+  pub mwh : 0 < 1000 - permille → Sharable longest (get_or parts 1 0) mwhs
+
+-- Columns whose figures can be added, and are the whole pass with their sums.
+pub record Divided (share : Meaning) (amount permille : ℕ) (kws mwhs : List ℕ) (kw mwh : Column) : Type 0 where
+  pub kw_bound : (k : ℕ) → get_or kw.shares k 0 ≤ largest_amount
+  pub mwh_bound : (k : ℕ) → get_or mwh.shares k 0 ≤ largest_amount
+  pub whole : (sums : List ℕ) → sums ≡ map (λ k. get_or kw.shares k 0 + get_or mwh.shares k 0) (range_with_len 0 most_takers) → record { takers = length kws; kw = kw; mwh = mwh; received = sums } ≡ worked_out share amount permille kws mwhs
+
 module _ (longest : ℕ) (share : Meaning) (law : SharingLaw longest share) (twelve : 12 ≤ longest)
     (amount permille : ℕ) (kws mwhs : List ℕ) (able : Passable longest amount permille kws mwhs) where
   pub split_sharable : Sharable longest amount (split permille)
@@ -117,13 +128,13 @@ module _ (longest : ℕ) (share : Meaning) (law : SharingLaw longest share) (twe
   pub no_mwh_part : 1000 - permille ≡ 0 → mwh_part share amount permille ≡ 0
   no_mwh_part none = no_weight_no_share longest share law amount (split permille) 1 split_sharable (omega arith) none
 
-  pub kw_sharable : 0 < permille → Sharable longest (kw_part share amount permille) kws
+  kw_sharable : 0 < permille → Sharable longest (kw_part share amount permille) kws
   kw_sharable some =
       let small = able.small in
       let whole = parts_add_up in
       record { small = omega arith; light = flow_light longest kws able.kw_bounds able.room; short = able.short; some = able.kw_weight some }
 
-  pub mwh_sharable : 0 < 1000 - permille → Sharable longest (mwh_part share amount permille) mwhs
+  mwh_sharable : 0 < 1000 - permille → Sharable longest (mwh_part share amount permille) mwhs
   mwh_sharable some =
       let small = able.small in
       let whole = parts_add_up in
@@ -161,7 +172,7 @@ module _ (longest : ℕ) (share : Meaning) (law : SharingLaw longest share) (twe
       (omega arith, omega arith)
 
   -- what sharing out over the split answers
-  pub parts_told : (parts : List ℕ) → Ok parts ≡ share_out_answer 2 longest share amount (split permille) → parts ≡ kw_part share amount permille ∷ mwh_part share amount permille ∷ []
+  parts_told : (parts : List ℕ) → Ok parts ≡ share_out_answer 2 longest share amount (split permille) → parts ≡ kw_part share amount permille ∷ mwh_part share amount permille ∷ []
   parts_told parts told =
       let due = shared_out_from_sharable 2 longest amount (split permille) share split_sharable (omega arith) (omega arith) in
       cc
@@ -177,21 +188,14 @@ module _ (longest : ℕ) (share : Meaning) (law : SharingLaw longest share) (twe
       let small = able.small in
       omega (arith, parts_add_up, share_within_part longest share law (1000 - permille) (mwh_part share amount permille) mwhs no_mwh_part mwh_sharable i h)
 
-  -- the columns that code makes of those parts, and the whole pass
-  module _ (parts : List ℕ) (told : Ok parts ≡ share_out_answer 2 longest share amount (split permille)) where
-    pub kw_told : (kw : Column) → ◌≡◌ {A = Result Column Refusal} (Ok kw) (Ok (column share permille (get_or parts 0 0) kws)) → kw ≡ column share permille (kw_part share amount permille) kws
-    kw_told kw e = cc (ap (λ (xs : List ℕ). column share permille (get_or xs 0 0) kws) (parts_told parts told))
-
-    pub mwh_told : (mwh : Column) → ◌≡◌ {A = Result Column Refusal} (Ok mwh) (Ok (column share (1000 - permille) (get_or parts 1 0) mwhs)) → mwh ≡ column share (1000 - permille) (mwh_part share amount permille) mwhs
-    mwh_told mwh e = cc (ap (λ (xs : List ℕ). column share (1000 - permille) (get_or xs 1 0) mwhs) (parts_told parts told))
-
-  pub kw_column_bounded : (kw : Column) → kw ≡ column share permille (kw_part share amount permille) kws → (k : ℕ) → get_or kw.shares k 0 ≤ largest_amount
+  -- the columns of those parts, and the whole pass
+  kw_column_bounded : (kw : Column) → kw ≡ column share permille (kw_part share amount permille) kws → (k : ℕ) → get_or kw.shares k 0 ≤ largest_amount
   kw_column_bounded kw e k = rw e (placed_bounded (of_part share permille (kw_part share amount permille) kws) most_takers (length kws) largest_amount kw_share_bounded k)
 
-  pub mwh_column_bounded : (mwh : Column) → mwh ≡ column share (1000 - permille) (mwh_part share amount permille) mwhs → (k : ℕ) → get_or mwh.shares k 0 ≤ largest_amount
+  mwh_column_bounded : (mwh : Column) → mwh ≡ column share (1000 - permille) (mwh_part share amount permille) mwhs → (k : ℕ) → get_or mwh.shares k 0 ≤ largest_amount
   mwh_column_bounded mwh e k = rw e (placed_bounded (of_part share (1000 - permille) (mwh_part share amount permille) mwhs) most_takers (length mwhs) largest_amount mwh_share_bounded k)
 
-  pub pass_told : (kw mwh : Column) (sums : List ℕ) → kw ≡ column share permille (kw_part share amount permille) kws → mwh ≡ column share (1000 - permille) (mwh_part share amount permille) mwhs → sums ≡ map (λ k. get_or kw.shares k 0 + get_or mwh.shares k 0) (range_with_len 0 most_takers) → record { takers = length kws; kw = kw; mwh = mwh; received = sums } ≡ worked_out share amount permille kws mwhs
+  pass_told : (kw mwh : Column) (sums : List ℕ) → kw ≡ column share permille (kw_part share amount permille) kws → mwh ≡ column share (1000 - permille) (mwh_part share amount permille) mwhs → sums ≡ map (λ k. get_or kw.shares k 0 + get_or mwh.shares k 0) (range_with_len 0 most_takers) → record { takers = length kws; kw = kw; mwh = mwh; received = sums } ≡ worked_out share amount permille kws mwhs
   pass_told kw mwh sums kw_is mwh_is sums_are =
       let f = of_part share permille (kw_part share amount permille) kws in
       let g = of_part share (1000 - permille) (mwh_part share amount permille) mwhs in
@@ -201,3 +205,21 @@ module _ (longest : ℕ) (share : Meaning) (law : SharingLaw longest share) (twe
       let sums_is : sums ≡ in_places most_takers (map (received share amount permille kws mwhs) (range_with_len 0 (length kws))) =
       sums_are ∙ one ∙ two ∙ three ∙ added_in_places f g most_takers (length kws) able.room in
       cc
+
+  -- what the code makes of the parts that sharing out over the split answers
+  module _ (parts : List ℕ) (told : Ok parts ≡ share_out_answer 2 longest share amount (split permille)) where
+    pub parted : Parted longest permille kws mwhs parts
+    parted =
+        let parts_are = parts_told parts told in
+        record { kw = λ some. rw parts_are (kw_sharable some); mwh = λ some. rw parts_are (mwh_sharable some) }
+
+    pub divided : (kw mwh : Column) → ◌≡◌ {A = Result Column Refusal} (Ok kw) (Ok (column share permille (get_or parts 0 0) kws)) → ◌≡◌ {A = Result Column Refusal} (Ok mwh) (Ok (column share (1000 - permille) (get_or parts 1 0) mwhs)) → Divided share amount permille kws mwhs kw mwh
+    divided kw mwh kw_told mwh_told =
+        let parts_are = parts_told parts told in
+        let kw_is : kw ≡ column share permille (kw_part share amount permille) kws = cc in
+        let mwh_is : mwh ≡ column share (1000 - permille) (mwh_part share amount permille) mwhs = cc in
+        record {
+          kw_bound = kw_column_bounded kw kw_is;
+          mwh_bound = mwh_column_bounded mwh mwh_is;
+          whole = λ sums sums_are. pass_told kw mwh sums kw_is mwh_is sums_are;
+        }
