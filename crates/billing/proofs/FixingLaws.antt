@@ -1,16 +1,12 @@
 -- The landed euros come back, carrier by carrier.
-use Rattle.std.proofs.Common.{◌≡◌, ℕ, zero, suc, ◌+◌, ◌*◌, ◌<◌, ◌≤◌, false, List, map, length, get_or, Ok, sum, sym, refl, ap, ◌∙◌, ⊎_elim, zero-mul, arith}
-use Rattle.std.specs.List.{range_with_len}
+use Rattle.std.proofs.Common.{◌≡◌, ℕ, zero, suc, ◌+◌, ◌*◌, ◌<◌, ◌≤◌, Bool, true, false, List, length, get_or, sum, sym, refl, ap, ◌∙◌, ⊎_elim, zero-mul, arith}
 use Rattle.std.proofs.lemmas.List.FromFn.{get_or-map-range_with_len}
 use Rattle.std.proofs.lemmas.Nat.{div-add-mod', mod_below}
-use Rattle.std.proofs.lemmas.Bool.{cases_lt, eq-eqb, ne_eqb, cond-false}
+use Rattle.std.proofs.lemmas.Bool.{or_from, true≢false, true_from_ne_false, cases_lt, eq-eqb, ne_eqb}
 use Rattle.std.proofs.lemmas.Bool.Decides.{nat_tests}
-use Rattle.sharing.specs.Limits.{above}
-use Rattle.sharing.specs.ShareOut.{in_places, share_out_answer}
 use Rattle.sharing.specs.Sharing.{Meaning, Sharable, SharingLaw, largest_amount, sum_below}
-use Rattle.sharing.proofs.Answering.{shared_out_from_sharable}
 use Rattle.sharing.proofs.SharingLaws.{no_weight_no_share}
-use Rattle.billing.specs.Fixings.{FixedWhole, allotment, carriers, each_carrier, fixed_out, fixing_answer, fixing_out_of_bounds, largest_tariff, remainder, remainder_of, tariff, tariff_of, unfit, volumes_unfit}
+use Rattle.billing.specs.Fixings.{FixedWhole, allotment, carriers, each_carrier, fixed_out, fixing_out_of_bounds, remainder, remainder_of, tariff, tariff_of, unfit, volumes_unfit}
 
 -- one carrier's volume fits its percentage
 pub fit_volume : (percentage volume : ℕ) → unfit percentage volume ≡ false → (0 < percentage → 0 < volume) × (percentage ≡ 0 → volume ≡ 0)
@@ -23,6 +19,19 @@ fit_volumes percentages volumes fit (suc zero) h = grind (arith, nat_tests)
 fit_volumes percentages volumes fit (suc (suc zero)) h = grind (arith, nat_tests)
 fit_volumes percentages volumes fit (suc (suc (suc zero))) h = grind (arith, nat_tests)
 fit_volumes percentages volumes fit (suc (suc (suc (suc n)))) h = absurd (omega arith)
+
+-- each of the four does, said of a carrier that is used
+pub used_volumes : (percentages volumes : List ℕ) → volumes_unfit percentages volumes ≡ false → (i : ℕ) → i < carriers → 0 < get_or percentages i 0 → 0 < get_or volumes i 0
+used_volumes percentages volumes fit i h = (fit_volume (get_or percentages i 0) (get_or volumes i 0) (fit_volumes percentages volumes fit i h)).0
+
+-- some carrier is unfit exactly if one of the four is
+pub some_unfit : (some : Bool) (percentages volumes : List ℕ) → (some ≡ false → (i : ℕ) → i < carriers → unfit (get_or percentages i 0) (get_or volumes i 0) ≡ false) → (some ≡ true → (i : ℕ) × (i < carriers) × (unfit (get_or percentages i 0) (get_or volumes i 0) ≡ true)) → some ≡ volumes_unfit percentages volumes
+some_unfit false percentages volumes none found =
+    let each = none refl in
+    sym (or_from _ _ (each 0 (omega arith)) (or_from _ _ (each 1 (omega arith)) (or_from _ _ (each 2 (omega arith)) (each 3 (omega arith)))))
+some_unfit true percentages volumes none found =
+    let here = found refl in
+    sym (true_from_ne_false _ (λ fit. true≢false (sym here.2 ∙ fit_volumes percentages volumes fit here.0 here.1)))
 
 -- a used carrier: tariff times volume and the remainder are its euros
 used_carrier : (percentage euros volume : ℕ) → 0 < percentage → 0 < volume → (tariff_of percentage euros volume * volume + remainder_of percentage euros volume ≡ 10000 * euros) × (remainder_of percentage euros volume < volume)
@@ -79,22 +88,6 @@ module _ (longest : ℕ) (share : Meaning) (law : SharingLaw longest share) (twe
             let no_euros = no_weight_no_share longest share law landed percentages i percentages_sharable (omega arith) none in
             (at_carrier (allotment share landed percentages) i h ∙ no_euros, (fits.1 none, (at_carrier (tariff share landed percentages volumes) i h ∙ nothing.0, at_carrier (remainder share landed percentages volumes) i h ∙ nothing.1)));
       }
-
-  -- what code makes of the shares that it was told
-  pub fixing_told : (allotments tariffs remainders : List ℕ) → Ok allotments ≡ share_out_answer 4 longest share landed percentages → tariffs ≡ each_carrier (λ k. tariff_of (get_or percentages k 0) (get_or allotments k 0) (get_or volumes k 0)) → remainders ≡ each_carrier (λ k. remainder_of (get_or percentages k 0) (get_or allotments k 0) (get_or volumes k 0)) → record { volumes = volumes; allotments = allotments; tariffs = tariffs; remainders = remainders } ≡ fixed_out share landed percentages volumes
-  fixing_told allotments tariffs remainders told tariffs_are remainders_are =
-      let due = shared_out_from_sharable 4 longest landed percentages share percentages_sharable (omega arith) (omega arith) in
-      let counted = ap (λ n. in_places 4 (map (share landed percentages) (range_with_len 0 n))) four in
-      let allotted : allotments ≡ each_carrier (allotment share landed percentages) = cc in
-      let priced = ap (λ (xs : List ℕ). each_carrier (λ k. tariff_of (get_or percentages k 0) (get_or xs k 0) (get_or volumes k 0))) allotted in
-      let rounded = ap (λ (xs : List ℕ). each_carrier (λ k. remainder_of (get_or percentages k 0) (get_or xs k 0) (get_or volumes k 0))) allotted in
-      let tariffs_is : tariffs ≡ each_carrier (tariff share landed percentages volumes) = tariffs_are ∙ priced in
-      let remainders_is : remainders ≡ each_carrier (remainder share landed percentages volumes) = remainders_are ∙ rounded in
-      cc
-
-pub fixing_answered : (share : Meaning) (landed : ℕ) (percentages volumes : List ℕ) → fixing_out_of_bounds landed percentages volumes ≡ false → volumes_unfit percentages volumes ≡ false → above largest_tariff (each_carrier (tariff share landed percentages volumes)) ≡ false → fixing_answer share landed percentages volumes ≡ Ok (fixed_out share landed percentages volumes)
-fixing_answered share landed percentages volumes bounds fit under =
-    cond-false (fixing_out_of_bounds landed percentages volumes) _ _ bounds ∙ cond-false (volumes_unfit percentages volumes) _ _ fit ∙ cond-false (above largest_tariff (each_carrier (tariff share landed percentages volumes))) _ _ under
 
 pub within_bounds : (landed : ℕ) (percentages volumes : List ℕ) → fixing_out_of_bounds landed percentages volumes ≡ false → (landed ≤ largest_amount) × (sum percentages ≡ 100)
 within_bounds landed percentages volumes bounds = (grind (arith, nat_tests), grind (arith, nat_tests))

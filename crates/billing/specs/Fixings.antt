@@ -7,6 +7,7 @@ use Rattle.refusal.specs.Refusals.{refuse}
 use Rattle.sharing.specs.Limits.{above}
 use Rattle.sharing.specs.Sharing.{Meaning, largest_amount}
 use Rattle.billing.specs.declared.fixings.Fixing.{Fixing}
+use Rattle.billing.specs.declared.fixings.Price.{Price}
 
 abbrev pub carriers : ℕ
 carriers = 4
@@ -33,6 +34,11 @@ tariff_of percentage euros volume = cond (percentage == 0) 0 (10000 * euros / vo
 -- What rounding leaves, in ten-thousandths of a euro; 0 for an unused carrier.
 abbrev pub remainder_of : ℕ → ℕ → ℕ → ℕ
 remainder_of percentage euros volume = cond (percentage == 0) 0 (10000 * euros % volume)
+
+-- both for one carrier
+abbrev pub price : ℕ → ℕ → ℕ → Price
+price percentage euros volume =
+    record { tariff = tariff_of percentage euros volume; remainder = remainder_of percentage euros volume }
 
 abbrev pub tariff : Meaning → ℕ → List ℕ → List ℕ → ℕ → ℕ
 tariff share landed percentages volumes i =

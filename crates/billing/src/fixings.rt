@@ -1,12 +1,12 @@
 // A fixing: the euros that landed at a system become tariffs.
-ghost use Rattle.std.specs.Prelude.{◌≡◌, ℕ, ◌<◌, ◌≤◌, false, IfOk, sum, ◌==◌, slice_index};
-ghost use Rattle.billing.specs.Fixings.{FixedWhole, each_carrier, fixing_answer, fixing_out_of_bounds, remainder_of, tariff_of, unfit, volumes_unfit};
+ghost use Rattle.std.specs.Prelude.{◌≡◌, ℕ, ◌-◌, ◌<◌, ◌≤◌, IfOk, slice_index};
+ghost use Rattle.edition.specs.Carriers.{carrier_number};
+ghost use Rattle.billing.specs.Fixings.{FixedWhole, each_carrier, fixing_answer, fixing_out_of_bounds, price, remainder_of, tariff_of, unfit, volumes_unfit};
 
+use edition::{CARRIERS, Carrier, add_up_to_100};
 use refusal::{Ground, Refusal};
 use sharing::{LARGEST_AMOUNT, SharingRule, any_above, share_out};
-
-// Contracted kW, kWmax per month, kWh and reckoned kW.
-pub const CARRIERS: usize = 4;
+use std::array;
 
 // The largest tariff, in ten-thousandths of a euro.
 pub const LARGEST_TARIFF: u64 = 100_000_000;
@@ -15,6 +15,7 @@ pub const LARGEST_TARIFF: u64 = 100_000_000;
 pub const LARGEST_NUMBER: u64 = 9_999_999_999;
 
 // Four figures each, carrier 1 first. Tariffs and remainders are in ten-thousandths of a euro.
+// A list of each figure, and no list of carriers: callers add up, hand on and compare one figure of all carriers.
 #[derive(Clone, Copy)]
 pub struct Fixing {
     pub volumes: [u64; CARRIERS],
@@ -23,29 +24,37 @@ pub struct Fixing {
     pub remainders: [u64; CARRIERS],
 }
 
-// The tariff of one carrier, rounded down; 0 where it is unused.
-fn tariff_of(percentage: u64, euros: u64, volume: u64) -> u64
-    requires small { euros ≤ 5_000_000_000 }
-    requires fit { 0 < percentage → 0 < volume }
-    ensures { result ≡ tariff_of percentage euros volume }
-{
-    if percentage == 0 {
-        0
-    } else {
-        10_000 * euros / volume
+impl Fixing {
+    // The tariff of a carrier.
+    pub fn tariff(self, carrier: Carrier) -> u64
+        ensures { result ≡ slice_index self.tariffs (carrier_number carrier - 1) }
+    {
+        self.tariffs[carrier.position()]
     }
 }
 
-// What rounding that tariff down leaves.
-fn remainder_of(percentage: u64, euros: u64, volume: u64) -> u64
+// A carrier's tariff, and what rounding it down leaves; both are 0 where the carrier is unused.
+#[derive(Clone, Copy)]
+struct Price {
+    tariff: u64,
+    remainder: u64,
+}
+
+// The price of one carrier.
+fn price_of(percentage: u64, euros: u64, volume: u64) -> Price
     requires small { euros ≤ 5_000_000_000 }
     requires fit { 0 < percentage → 0 < volume }
-    ensures { result ≡ remainder_of percentage euros volume }
+    ensures { result ≡ price percentage euros volume }
 {
     if percentage == 0 {
-        0
-    } else {
-        10_000 * euros % volume
+        return Price {
+            tariff: 0,
+            remainder: 0,
+        };
+    }
+    Price {
+        tariff: 10_000 * euros / volume,
+        remainder: 10_000 * euros % volume,
     }
 }
 
@@ -60,35 +69,35 @@ fn is_unfit(percentage: u64, volume: u64) -> bool
     }
 }
 
+// Whether the volume of some carrier does not go with its percentage. The percentages are an edition's and the volumes a
+// caller's, so they stay two lists.
 fn are_volumes_unfit(percentages: &[u64; CARRIERS], volumes: &[u64; CARRIERS]) -> bool
     ensures { result ≡ volumes_unfit percentages.now volumes.now }
 {
-    is_unfit(percentages[0], volumes[0])
-        || is_unfit(percentages[1], volumes[1])
-        || is_unfit(percentages[2], volumes[2])
-        || is_unfit(percentages[3], volumes[3])
+    percentages
+        .iter()
+        .zip(volumes)
+        .any(|(percentage, volume)| is_unfit(*percentage, *volume))
 }
 
 // The tariffs and the remainders of all carriers.
-fn price(
+fn price_all(
     percentages: &[u64; CARRIERS],
     allotments: &[u64; CARRIERS],
     volumes: &[u64; CARRIERS],
 ) -> ([u64; CARRIERS], [u64; CARRIERS])
     requires small { (k : ℕ) → slice_index allotments.now k ≤ 5_000_000_000 }
-    requires fit { volumes_unfit percentages.now volumes.now ≡ false }
+    requires fit { (k : ℕ) → k < 4 → 0 < slice_index percentages.now k → 0 < slice_index volumes.now k }
     ensures tariffs { result.0 ≡ each_carrier (λ k. tariff_of (slice_index percentages.now k) (slice_index allotments.now k) (slice_index volumes.now k)) }
     ensures remainders { result.1 ≡ each_carrier (λ k. remainder_of (slice_index percentages.now k) (slice_index allotments.now k) (slice_index volumes.now k)) }
 {
-    let mut tariffs = [0; CARRIERS];
-    let mut remainders = [0; CARRIERS];
-    for carrier in 0..CARRIERS {
-        let percentage = percentages[carrier];
-        let euros = allotments[carrier];
-        let volume = volumes[carrier];
-        tariffs[carrier] = tariff_of(percentage, euros, volume);
-        remainders[carrier] = remainder_of(percentage, euros, volume);
-    }
+    let prices: [Price; CARRIERS] = array::from_fn(|i| price_of(
+        percentages[i],
+        allotments[i],
+        volumes[i],
+    ));
+    let tariffs = prices.map(|price| price.tariff);
+    let remainders = prices.map(|price| price.remainder);
     (tariffs, remainders)
 }
 
@@ -97,19 +106,6 @@ fn is_out_of_bounds(landed: u64, percentages: &[u64; CARRIERS], volumes: &[u64; 
     ensures { result ≡ fixing_out_of_bounds landed percentages.now volumes.now }
 {
     landed > LARGEST_AMOUNT || any_above(LARGEST_NUMBER, volumes) || !add_up_to_100(percentages)
-}
-
-fn add_up_to_100(percentages: &[u64]) -> bool
-    ensures { result ≡ (sum percentages.now == 100) }
-{
-    let mut left = 100;
-    for percentage in percentages {
-        if *percentage > left {
-            return false;
-        }
-        left -= *percentage;
-    }
-    left == 0
 }
 
 // Shares the landed euros over the percentages; a carrier's tariff is its euros divided by its volume.
@@ -129,7 +125,7 @@ pub fn work_out_fixing<R: SharingRule>(
         return Err(Refusal::of(Ground::VolumeUnfit));
     }
     let allotments = share_out::<R, CARRIERS>(rule, landed, percentages)?;
-    let (tariffs, remainders) = price(percentages, &allotments, volumes);
+    let (tariffs, remainders) = price_all(percentages, &allotments, volumes);
     if any_above(LARGEST_TARIFF, &tariffs) {
         return Err(Refusal::of(Ground::TariffTooHigh));
     }
