@@ -6,13 +6,13 @@ use Rattle.refusal.specs.declared.ground.Ground.{Ground}
 use Rattle.std.proofs.lemmas.Bool.{cond_both}
 use Rattle.std.proofs.lemmas.Bool.Decides.{Decides-eqb}
 use Rattle.rows.specs.Lines.{line, Fit, numbers_answer, ReadsExactly}
-use Rattle.rows.specs.Told.{figures_listed, answer_numbers, answer_bytes, AnswerFits, all_figures, first_long, figures_long, figures_of, with_figures, figures_as, figures_by, figures_answer, telling, refusing, refusing_with, answer_read}
+use Rattle.rows.specs.Told.{figures_listed, answer_numbers, answer_bytes, AnswerFits, figures_long, figures_of, with_figures, figures_by, figures_answer, telling, refusing, refusing_with, answer_read}
 use Rattle.rows.specs.declared.answer.AnswerRow.{AnswerRow}
 use Rattle.rows.specs.declared.answer.AnswerRow.TheVariants.{Told, Refused}
 use Rattle.rows.specs.declared.answer.Figures.{Figures}
 use Rattle.rows.specs.declared.answer.Figures.TheVariants.{One, Two, Three, Four, Five, Six}
 use Rattle.rows.specs.declared.fault.RowFault.{RowFault}
-use Rattle.rows.specs.declared.fault.RowFault.TheVariants.{Letter, Length}
+use Rattle.rows.specs.declared.fault.RowFault.TheVariants.{Letter}
 use Rattle.rows.proofs.Lined.{length_line}
 use Rattle.rows.proofs.Numbers.{answer_line, line_answer}
 use Rattle.rows.proofs.Requested.{elements_all}
@@ -41,20 +41,6 @@ same_figures (Four a b c d) = record { same_count = refl; again = refl; long = r
 same_figures (Five a b c d e) = record { same_count = refl; again = refl; long = refl; few = omega arith }
 same_figures (Six a b c d e f) = record { same_count = refl; again = refl; long = refl; few = omega arith }
 
--- a row as long as one of so many figures is read as such a row
-pub figures_read : (f : Figures) (row : List ℕ) (r : Result Figures RowFault) → length row / 10 ≡ length (figures_listed f) → r ≡ figures_as (figures_of f []) row → r ≡ figures_answer row
-figures_read f row r l e = e ∙ sym (ap (λ o. figures_by o row) (ap figures_long l ∙ (same_figures f).long))
-
-not_long : (n : ℕ) (fs : List Figures) → ((f : Figures) → n ≡ length (figures_listed f) → ⊥) → first_long n fs ≡ None
-not_long n [] other = refl
-not_long n (f ∷ fs) other =
-    cond_both (eqb n (length (figures_listed f))) (Some f) (first_long n fs) (λ o. o ≡ None)
-    (λ t. absurd (other f ((Decides-eqb n (length (figures_listed f))).0 t))) (λ h. not_long n fs other)
-
-pub figures_misread : (row : List ℕ) → ((f : Figures) → length row / 10 ≡ length (figures_listed f) → ⊥) → Err Length ≡ figures_answer row
-unfolding figures_long
-figures_misread row other = sym (ap (λ o. figures_by o row) (not_long (length row / 10) all_figures other))
-
 -- what the letter of a row says
 pub read_a : (row : List ℕ) (r : Result AnswerRow RowFault) → get_or row 0 0 ≡ 65 → r ≡ telling (figures_answer row) → r ≡ answer_read row
 unfolding answer_read
@@ -63,14 +49,6 @@ read_a row r c e = e ∙ sym (ap (λ l. cond (eqb l 65) (telling (figures_answer
 pub read_r : (row : List ℕ) (r : Result AnswerRow RowFault) → get_or row 0 0 ≡ 82 → r ≡ refusing_with (numbers_answer 3 row) → r ≡ answer_read row
 unfolding answer_read
 read_r row r c e = e ∙ sym (ap (λ l. cond (eqb l 65) (telling (figures_answer row)) (cond (eqb l 82) (refusing_with (numbers_answer 3 row)) (Err Letter))) c)
-
-pub read_other : (row : List ℕ) → (get_or row 0 0 ≡ 65 → ⊥) → (get_or row 0 0 ≡ 82 → ⊥) → Err Letter ≡ answer_read row
-unfolding answer_read
-read_other row a r =
-    let c : ℕ = get_or row 0 0 in
-    let inner = cond_both (eqb c 82) (refusing_with (numbers_answer 3 row)) (Err Letter) (λ x. Err Letter ≡ x) (λ t. absurd (r ((Decides-eqb c 82).0 t))) (λ f. refl) in
-    cond_both (eqb c 65) (telling (figures_answer row)) (cond (eqb c 82) (refusing_with (numbers_answer 3 row)) (Err Letter)) (λ x. Err Letter ≡ x)
-    (λ t. absurd (a ((Decides-eqb c 65).0 t))) (λ f. inner)
 
 -- What is written reads back.
 pub answer_written : (a : AnswerRow) → AnswerFits a → answer_read (answer_bytes a) ≡ Ok a
@@ -157,3 +135,6 @@ answers_exactly row r e = record {
 pub length_answer_le : (a : AnswerRow) → length (answer_bytes a) ≤ 62
 length_answer_le (Told f) = omega (arith, length_line 65 (figures_listed f), (same_figures f).few)
 length_answer_le (Refused g of place) = omega (arith, length_line 82 (answer_numbers (Refused g of place)))
+
+pub same_from_answer_row : (a b : AnswerRow) → AnswerFits a → AnswerFits b → answer_bytes a ≡ answer_bytes b → a ≡ b
+same_from_answer_row a b f g e = let so : Ok a ≡ Ok b = sym (answer_written a f) ∙ ap answer_read e ∙ answer_written b g in cc

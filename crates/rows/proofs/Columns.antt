@@ -41,13 +41,6 @@ pub record Read (k : ℕ) (xs : List ℕ) (i v : ℕ) : Type 0 where
   pub front : (n : ℕ) → n / 10 ^ (k - i) ≡ v → take i xs ≡ take i (columns k n)
   pub only : (n : ℕ) → n < 10 ^ k → xs ≡ columns k n → n / 10 ^ (k - i) ≡ v
 
-pub read_none : (k : ℕ) (xs : List ℕ) → Read k xs 0 0
-read_none k xs = record {
-  below = omega arith;
-  front = λ n e. refl;
-  only = λ n l e. let s : k - 0 ≡ k = omega arith in ap (λ m. n / 10 ^ m) s ∙ div-eq_of_lt l;
-}
-
 module _ (k : ℕ) (xs : List ℕ) (i v : ℕ) (long : length xs ≡ k) (lt : i < k) (so : Read k xs i v) where
   column_at : (n : ℕ) → get_or (columns k n) i 0 ≡ mark (eqb (i + 1) k) (n / 10 ^ (k - (i + 1)))
   column_at n =
@@ -108,9 +101,6 @@ written_more xs n i rest b lt so e =
       tail = drop-set xs i b lt ∙ (λ t. (e ∙ ap (λ v. mark v rest) last ∙ ap (mark (eqb j 0)) so.left) t ∷ so.tail t) ∙ ap (λ m. columns m n) (sym s);
       left = ap (λ m. m / 10) so.left ∙ shorter n (length (set xs i b) - i) j (omega arith);
     }
-
-pub written_all : (xs : List ℕ) (n rest : ℕ) → Written xs n 0 rest → xs ≡ columns (length xs) n
-written_all xs n rest so = let s : length xs - 0 ≡ length xs = omega arith in so.tail ∙ ap (λ m. columns m n) s
 
 -- one column more shows one digit more
 shown_mark : (last : Bool) (m : ℕ) → cond (eqb (mark last m) 32) (m / 10) (10 * (m / 10) + (mark last m - 48)) ≡ m

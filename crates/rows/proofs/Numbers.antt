@@ -1,11 +1,14 @@
 -- The numbers in the fields of a row, and which of them fit.
-use Rattle.std.proofs.Common.{◌≡◌, ℕ, zero, suc, ◌+◌, ◌-◌, ◌*◌, ◌^◌, ◌<◌, ◌≤◌, cond, ltb, List, [], ◌∷◌, ◌++◌, length, get_or, take, set, Some, None, Ok, Err, Decides, Option, Result, sym, refl, ap, ◌∙◌, subst, ⊎_elim, add-zero, arith}
+use Rattle.std.proofs.Common.{◌≡◌, ℕ, zero, suc, ◌+◌, ◌*◌, ◌^◌, ◌<◌, ◌≤◌, cond, ltb, List, [], ◌∷◌, length, get_or, Some, None, Ok, Err, position, Decides, Option, Result, sym, refl, ap, ◌∙◌, subst, add-zero, arith}
 use Rattle.refusal.specs.Refusals.{refuse}
 use Rattle.refusal.specs.declared.ground.Ground.TheVariants.{BufferTooSmall}
 use Rattle.refusal.specs.declared.refusal.Refusal.{Refusal}
-use Rattle.std.proofs.lemmas.List.{get_or-set_same, get_or-set_other, take_at}
-use Rattle.std.proofs.lemmas.Bool.{cases_eq, cond_both, cond-true}
-use Rattle.std.proofs.lemmas.Bool.Decides.{Decides-ltb, Decides-eqb, Decides-and}
+use Rattle.std.proofs.lemmas.Bool.{cond_both, cond-true, cond-false, le-ltb}
+use Rattle.std.proofs.lemmas.Iterator.Adapters.{position_from-zero}
+use Rattle.std.specs.List.{position_from}
+use Rattle.std.specs.Option.{option_map}
+use Rattle.std.specs.Result.{result_ok}
+use Rattle.std.proofs.lemmas.Bool.Decides.{Decides-ltb, Decides-eqb, Decides-and, not_from_Decides}
 use Rattle.rows.specs.Faults.{malformed}
 use Rattle.rows.specs.Fields.{field, number_in}
 use Rattle.rows.specs.Lines.{line, Fit, unfit_from, unless_unfit, write_answer, field_bytes, with_number, numbers_from, shaped, numbers_answer}
@@ -70,15 +73,6 @@ numbers_read (suc n) i row ns e =
     let more = numbers_read n (i + 1) row w.1 w.3 in
     subst (λ l. (length l ≡ suc n) × ReadTo row i l (suc n)) w.4 (ap suc more.0, read_cons row i w.0 w.1 n w.2 more.1)
 
--- one more number is read
-pub read_more : (row ns : List ℕ) (i x : ℕ) → i < length ns → ReadTo row 0 ns i → number_in (field_bytes row i) ≡ Some x → ReadTo row 0 (set ns i x) (i + 1)
-read_more row ns i x lt so e k l =
-    ⊎_elim
-    (λ same. let s : 0 + k ≡ i = omega arith in
-    ap (λ j. number_in (field_bytes row j)) s ∙ e ∙ ap Some (sym (ap (λ j. get_or (set ns i x) j 0) same ∙ get_or-set_same ns i x 0 lt)))
-    (λ other. so k (omega arith) ∙ ap Some (sym (get_or-set_other ns i k x 0 other)))
-    (cases_eq k i)
-
 pub well_shaped : (n : ℕ) (row : List ℕ) → Decides (shaped n row) ((length row ≡ 2 + 10 * n) × (get_or row (1 + 10 * n) 0 ≡ 10))
 well_shaped n row = Decides-and _ _ (Decides-eqb (length row) (2 + 10 * n)) (Decides-eqb (get_or row (1 + 10 * n) 0) 10)
 
@@ -115,16 +109,21 @@ line_answer n row ns =
     (long, fit_from ns (λ k l. (at k l).0), made_line row ns (omega (arith, fine.0)) (ap (λ m. get_or row m 0) s ∙ fine.1) (λ k l. (at k l).1)))
     (λ f e. let z : ◌≡◌ {A = ℕ} 0 1 = cc in absurd (omega arith))
 
--- the numbers before the one at i fit, and it does not
-pub unfit_some : (p : ℕ) (ns : List ℕ) (i : ℕ) → i < length ns → ((k : ℕ) → k < i → get_or ns k 0 < 10 ^ 10) → 10 ^ 10 ≤ get_or ns i 0 → unfit_from p ns ≡ Some (p + i)
-unfit_some p [] i l below here = absurd (omega arith)
-unfit_some p (n ∷ ns) zero l below here =
-    cond_both (ltb n (10 ^ 10)) (unfit_from (p + 1) ns) (Some p) (λ r. r ≡ Some (p + 0))
-    (λ t. absurd (omega (arith, (Decides-ltb n (10 ^ 10)).0 t))) (λ f. ap Some (sym (add-zero p)))
-unfit_some p (n ∷ ns) (suc i) l below here =
-    let s : p + 1 + i ≡ p + suc i = omega arith in
-    cond-true (ltb n (10 ^ 10)) (unfit_from (p + 1) ns) (Some p) ((Decides-ltb n (10 ^ 10)).1 (below 0 (omega arith)))
-    ∙ unfit_some (p + 1) ns i (omega arith) (λ k h. below (suc k) (omega arith)) here ∙ ap Some s
+-- the place of the first number that fits no field, by where it stands
+unfit_by : (p i : ℕ) (ns : List ℕ) → p ≡ i + 1 → unfit_from p ns ≡ option_map (λ j. j + 1) (position_from (λ n. ltb 9999999999 n) i ns)
+unfit_by p i [] e = refl
+unfit_by p i (n ∷ ns) e =
+    let found : Option ℕ → Option ℕ = λ o. option_map (λ j. j + 1) o in
+    let behind : Option ℕ = position_from (λ n. ltb 9999999999 n) (i + 1) ns in
+    cond_both (ltb n (10 ^ 10)) (unfit_from (p + 1) ns) (Some p) (λ r. r ≡ found (cond (ltb 9999999999 n) (Some i) behind))
+    (λ t. let fits : n ≤ 9999999999 = omega (arith, (Decides-ltb n (10 ^ 10)).0 t) in
+    unfit_by (p + 1) (i + 1) ns (omega arith) ∙ ap found (sym (cond-false (ltb 9999999999 n) (Some i) behind (le-ltb 9999999999 n fits))))
+    (λ f. let wide : 9999999999 < n = omega (arith, not_from_Decides (ltb n (10 ^ 10)) (Decides-ltb n (10 ^ 10)) f) in
+    ap Some e ∙ ap found (sym (cond-true (ltb 9999999999 n) (Some i) behind ((Decides-ltb 9999999999 n).1 wide))))
+
+pub unfit_found : (ns : List ℕ) (o : Option ℕ) → o ≡ position (λ n. ltb 9999999999 n) ns → unfit_from 1 ns ≡ option_map (λ j. j + 1) o
+unfit_found ns o at =
+    unfit_by 1 0 ns refl ∙ ap (option_map (λ j. j + 1)) (sym (at ∙ position_from-zero (λ n. ltb 9999999999 n) ns))
 
 -- all fit
 pub unfit_none : (p : ℕ) (ns : List ℕ) → Fit ns → unfit_from p ns ≡ None
@@ -138,11 +137,7 @@ fit_from_none p (n ∷ ns) =
     cond_both (ltb n (10 ^ 10)) (unfit_from (p + 1) ns) (Some p) (λ r. r ≡ None → Fit (n ∷ ns))
     (λ t e. ((Decides-ltb n (10 ^ 10)).0 t, fit_from_none (p + 1) ns e)) (λ f e. let z : ◌≡◌ {A = ℕ} 0 1 = cc in absurd (omega arith))
 
--- a writer refuses a short buffer before all else
-pub write_short : (ns bytes : List ℕ) (room : ℕ) → room < 62 → write_answer ns bytes room ≡ Err (refuse BufferTooSmall 0)
-write_short ns bytes room l = cond-true (ltb room 62) _ _ ((Decides-ltb room 62).1 l)
-
--- and then a number that fits no field
+-- a writer that has room refuses a number that fits no field
 pub write_roomy : (ns bytes : List ℕ) (room : ℕ) {unfit : Option ℕ} → 62 ≤ room → unfit_from 1 ns ≡ unfit → write_answer ns bytes room ≡ unless_unfit unfit (length bytes)
 write_roomy ns bytes room {unfit} l e =
     cond_both (ltb room 62) (Err (refuse BufferTooSmall 0)) (unless_unfit (unfit_from 1 ns) (length bytes)) (λ r. r ≡ unless_unfit unfit (length bytes))
@@ -158,12 +153,13 @@ wrote_fit ns bytes room n =
     cond_both (ltb room 62) (Err (refuse BufferTooSmall 0)) (unless_unfit (unfit_from 1 ns) (length bytes)) (λ r. Ok n ≡ r → Fit ns × (n ≡ length bytes))
     (λ t e. let z : ◌≡◌ {A = ℕ} 0 1 = cc in absurd (omega arith)) (λ f e. told_fit ns (unfit_from 1 ns) (length bytes) n refl e)
 
--- and one that refuses found a short buffer or a number that does not fit
-pub refused_unfit : (ns bytes : List ℕ) (room : ℕ) (e : Refusal) → 62 ≤ room → Fit ns → Err e ≡ write_answer ns bytes room → ⊥
-refused_unfit ns bytes room e l fit so =
-    let told : Err e ≡ Ok (length bytes) = so ∙ write_roomy ns bytes room l (unfit_none 1 ns fit) in
-    let z : ◌≡◌ {A = ℕ} 0 1 = cc in omega arith
+pub written_fit : (ns bytes : List ℕ) (room n : ℕ) (r : Result ℕ Refusal) → result_ok r ≡ Some n → r ≡ write_answer ns bytes room → Fit ns
+written_fit ns bytes room n (Ok size) some so = (wrote_fit ns bytes room size so).0
+written_fit ns bytes room n (Err e) some so = let z : ◌≡◌ {A = ℕ} 0 1 = cc in absurd (omega arith)
 
--- the front of the buffer is what was written
-pub front : (bytes buffer rest : List ℕ) (n : ℕ) → n ≡ length bytes → buffer ≡ bytes ++ rest → take (n - 0) buffer ≡ bytes
-front bytes buffer rest n e so = ap (take (n - 0)) so ∙ take_at bytes rest (n - 0) (omega arith)
+-- and one that refuses found a short buffer or a number that does not fit
+pub refused_unfit : (ns bytes : List ℕ) (room : ℕ) (r : Result ℕ Refusal) → 62 ≤ room → Fit ns → result_ok r ≡ None → r ≡ write_answer ns bytes room → ⊥
+refused_unfit ns bytes room r l fit none so =
+    let told : r ≡ Ok (length bytes) = so ∙ write_roomy ns bytes room l (unfit_none 1 ns fit) in
+    let some : Some (length bytes) ≡ None = sym (ap result_ok told) ∙ none in
+    let z : ◌≡◌ {A = ℕ} 0 1 = cc in omega arith

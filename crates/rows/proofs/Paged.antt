@@ -1,14 +1,21 @@
 -- The first row of a page, and all of them joined.
-use Rattle.std.proofs.Common.{◌≡◌, ℕ, zero, suc, ◌+◌, ◌-◌, ◌<◌, ◌≤◌, cond, eqb, List, [], ◌∷◌, length, get_or, take, drop, sym, refl, ap, ◌∙◌, add-one, arith}
-use Rattle.std.proofs.lemmas.List.{take_rest, drop-drop}
+use Rattle.std.proofs.Common.{◌≡◌, ℕ, zero, suc, ◌+◌, ◌<◌, ◌≤◌, cond, eqb, List, [], ◌∷◌, length, get_or, take, drop, MatchOption, Some, None, Option, position, sym, refl, ap, ◌∙◌, subst, add-one, arith, length-drop}
+use Rattle.std.proofs.lemmas.Iterator.Adapters.{position_from-zero}
+use Rattle.std.proofs.lemmas.List.{take_all}
+use Rattle.std.proofs.lemmas.List.Quantifiers.{position-Some}
 use Rattle.std.proofs.lemmas.Bool.{eq-eqb, ne_eqb, cond_both}
 use Rattle.std.proofs.lemmas.Bool.Decides.{Decides-eqb, not_from_Decides}
-use Rattle.std.specs.List.{flat_map}
-use Rattle.rows.specs.Pages.{before, rows_of, Ended, EndedButTheLast}
+use Rattle.std.specs.List.{flat_map, position_from}
+use Rattle.rows.specs.Judged.{behind}
+use Rattle.rows.specs.Pages.{Reading, before, rows_of, Ended, EndedButTheLast}
 
 -- no line feed among the first n bytes
 abbrev pub NoneIn : List ℕ → ℕ → Type 0
 NoneIn xs n = (k : ℕ) → k < n → get_or xs k 0 ≡ 10 → ⊥
+
+none_before : (x : ℕ) (xs : List ℕ) → (x ≡ 10 → ⊥) → NoneIn xs (length xs) → NoneIn (x ∷ xs) (suc (length xs))
+none_before x xs other none zero l = other
+none_before x xs other none (suc k) l = none k (omega arith)
 
 rows_at_feed : (x : ℕ) (xs : List ℕ) → x ≡ 10 → rows_of (x ∷ xs) ≡ (x ∷ []) ∷ rows_of xs
 unfolding rows_of
@@ -41,12 +48,47 @@ unfolding rows_of
 rows_none [] l = refl
 rows_none (x ∷ xs) l = absurd (omega arith)
 
--- the first row of what is left of a page, as `&page[at..]` has it
-pub next_row : (page : List ℕ) (at n : ℕ) → let rest : List ℕ = take (length page - at) (drop at page) in rows_of rest ≡ take n rest ∷ rows_of (drop n rest) → rows_of (drop at page) ≡ take (n - 0) rest ∷ rows_of (drop (at + n) page)
-next_row page at n e =
-    let rest : List ℕ = take (length page - at) (drop at page) in
-    let s : n ≡ n - 0 = omega arith in
-    ap rows_of (sym (take_rest page at)) ∙ e ∙ (λ i. take (s i) rest ∷ rows_of ((ap (drop n) (take_rest page at) ∙ drop-drop n at page) i))
+-- no line feed is found, so none is there
+none_found : (i : ℕ) (xs : List ℕ) → None ≡ position_from (λ b. eqb b 10) i xs → NoneIn xs (length xs)
+none_found i [] e = λ k l. absurd (omega arith)
+none_found i (x ∷ xs) e =
+    cond_both (eqb x 10) (Some i) (position_from (λ b. eqb b 10) (i + 1) xs) (λ o. None ≡ o → NoneIn (x ∷ xs) (suc (length xs)))
+    (λ t so. let z : ◌≡◌ {A = ℕ} 0 1 = cc in absurd (omega arith))
+    (λ f so. none_before x xs (not_from_Decides (eqb x 10) (Decides-eqb x 10) f) (none_found (i + 1) xs so)) e
+
+-- how long the first row is, by where the first line feed stands
+pub record FirstRow (xs : List ℕ) (n : ℕ) : Type 0 where
+  pub within : n ≤ length xs
+  pub some : 0 < n
+  pub first : rows_of xs ≡ take n xs ∷ rows_of (drop n xs)
+
+pub row_len : (xs : List ℕ) (o : Option ℕ) (n : ℕ) → o ≡ position (λ b. eqb b 10) xs → MatchOption o (n ≡ length xs) (λ i. n ≡ i + 1) → 0 < length xs → FirstRow xs n
+row_len xs None n at is some =
+    let none = none_found 0 xs (at ∙ position_from-zero (λ b. eqb b 10) xs) in
+    record {
+      within = omega arith;
+      some = omega arith;
+      first = last_row xs some none
+          ∙ (λ i. sym (take_all n xs (omega arith)) i ∷ sym (rows_none (drop n xs) (omega (arith, length-drop n xs))) i);
+    }
+row_len xs (Some i) n at is some =
+    let found = position-Some (λ b. eqb b 10) xs i 0 (sym at) in
+    let before : NoneIn xs i = λ k l. not_from_Decides (eqb (get_or xs k 0) 10) (Decides-eqb _ _) (found.2 k l) in
+    record {
+      within = omega (arith, found.0);
+      some = omega arith;
+      first = first_row xs i found.0 before ((Decides-eqb (get_or xs i 0) 10).0 found.1) ∙ ap (λ m. take m xs ∷ rows_of (drop m xs)) (sym is);
+    }
+
+-- A reader that handed out so many rows, and has these bytes left.
+abbrev pub reading_at : ℕ → List ℕ → Reading
+reading_at row rest = record { row = row; left = rows_of rest }
+
+-- no row is left
+pub nothing_taken : (reading : Reading) (row : ℕ) (rest : List ℕ) → reading_at row rest ≡ reading → length rest ≡ 0 → (reading ≡ behind reading) × (reading.left ≡ [])
+nothing_taken reading row rest is none =
+    subst (λ r. (r ≡ behind r) × (r.left ≡ [])) is
+    (subst (λ (rows : List (List ℕ)). let r : Reading = record { row = row; left = rows } in (r ≡ behind r) × (r.left ≡ [])) (sym (rows_none rest (omega arith))) (refl, refl))
 
 joined_before : (b : ℕ) (rows : List (List ℕ)) → flat_map (λ row. row) (before b rows) ≡ b ∷ flat_map (λ row. row) rows
 joined_before b [] = refl

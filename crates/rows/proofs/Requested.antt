@@ -1,14 +1,12 @@
 -- The row of a request, and the request in a row.
-use Rattle.std.proofs.Common.{◌≡◌, ℕ, zero, suc, ◌<◌, ◌≤◌, eqb, List, [], ◌∷◌, length, get_or, IfSome, Some, None, Ok, Err, Option, Result, sym, refl, ap, ◌∙◌, subst, arith}
+use Rattle.std.proofs.Common.{◌≡◌, ℕ, zero, suc, ◌≤◌, eqb, List, [], ◌∷◌, length, get_or, IfSome, Some, None, Ok, Err, Option, Result, sym, refl, ap, ◌∙◌, subst, arith}
 use Rattle.std.proofs.lemmas.Bool.{cond_both}
 use Rattle.std.proofs.lemmas.Bool.Decides.{Decides-eqb}
 use Rattle.rows.specs.Lines.{line, Fit, numbers_answer, ReadsExactly}
 use Rattle.rows.specs.Requests.{letter, numbers, row_bytes, Fits, all_calls, first_lettered, call_lettered, filled, with_numbers, read_as, read_by, read_answer}
 use Rattle.rows.specs.declared.fault.RowFault.{RowFault}
-use Rattle.rows.specs.declared.fault.RowFault.TheVariants.{Letter}
 use Rattle.rows.specs.declared.request.Request.{Request}
 use Rattle.rows.specs.declared.request.Request.TheVariants.{CalendarYear, Open, Couple, Use, Cost, TakeBack, Pass, Settle, Fix, Contract, Start}
-use Rattle.rows.proofs.Lined.{length_line}
 use Rattle.rows.proofs.Numbers.{answer_line, line_answer}
 
 -- k elements of a list from the place i on
@@ -45,22 +43,21 @@ record SameCall (call : Request) : Type 0 where
   pub same_count : length (numbers (filled call [])) ≡ length (numbers call)
   pub again : filled (filled call []) (numbers call) ≡ call
   pub lettered : call_lettered (letter call) ≡ Some (filled call [])
-  pub some_letter : 0 < letter call
   pub few : length (numbers call) ≤ 6
 
 same_call : (call : Request) → SameCall call
 unfolding call_lettered
-same_call (CalendarYear a) = record { same_letter = λ ns. refl; same_count = refl; again = refl; lettered = refl; some_letter = omega arith; few = omega arith }
-same_call (Open a b) = record { same_letter = λ ns. refl; same_count = refl; again = refl; lettered = refl; some_letter = omega arith; few = omega arith }
-same_call (Couple a b c d) = record { same_letter = λ ns. refl; same_count = refl; again = refl; lettered = refl; some_letter = omega arith; few = omega arith }
-same_call (Use a b c d) = record { same_letter = λ ns. refl; same_count = refl; again = refl; lettered = refl; some_letter = omega arith; few = omega arith }
-same_call (Cost a b) = record { same_letter = λ ns. refl; same_count = refl; again = refl; lettered = refl; some_letter = omega arith; few = omega arith }
-same_call (TakeBack a b) = record { same_letter = λ ns. refl; same_count = refl; again = refl; lettered = refl; some_letter = omega arith; few = omega arith }
-same_call (Pass a) = record { same_letter = λ ns. refl; same_count = refl; again = refl; lettered = refl; some_letter = omega arith; few = omega arith }
-same_call Settle = record { same_letter = λ ns. refl; same_count = refl; again = refl; lettered = refl; some_letter = omega arith; few = omega arith }
-same_call (Fix a b c d e) = record { same_letter = λ ns. refl; same_count = refl; again = refl; lettered = refl; some_letter = omega arith; few = omega arith }
-same_call (Contract a b c d e f) = record { same_letter = λ ns. refl; same_count = refl; again = refl; lettered = refl; some_letter = omega arith; few = omega arith }
-same_call (Start a b c) = record { same_letter = λ ns. refl; same_count = refl; again = refl; lettered = refl; some_letter = omega arith; few = omega arith }
+same_call (CalendarYear a) = record { same_letter = λ ns. refl; same_count = refl; again = refl; lettered = refl; few = omega arith }
+same_call (Open a b) = record { same_letter = λ ns. refl; same_count = refl; again = refl; lettered = refl; few = omega arith }
+same_call (Couple a b c d) = record { same_letter = λ ns. refl; same_count = refl; again = refl; lettered = refl; few = omega arith }
+same_call (Use a b c d) = record { same_letter = λ ns. refl; same_count = refl; again = refl; lettered = refl; few = omega arith }
+same_call (Cost a b) = record { same_letter = λ ns. refl; same_count = refl; again = refl; lettered = refl; few = omega arith }
+same_call (TakeBack a b) = record { same_letter = λ ns. refl; same_count = refl; again = refl; lettered = refl; few = omega arith }
+same_call (Pass a) = record { same_letter = λ ns. refl; same_count = refl; again = refl; lettered = refl; few = omega arith }
+same_call Settle = record { same_letter = λ ns. refl; same_count = refl; again = refl; lettered = refl; few = omega arith }
+same_call (Fix a b c d e) = record { same_letter = λ ns. refl; same_count = refl; again = refl; lettered = refl; few = omega arith }
+same_call (Contract a b c d e f) = record { same_letter = λ ns. refl; same_count = refl; again = refl; lettered = refl; few = omega arith }
+same_call (Start a b c) = record { same_letter = λ ns. refl; same_count = refl; again = refl; lettered = refl; few = omega arith }
 
 pub count_kept : (call : Request) → length (numbers (filled call [])) ≡ length (numbers call)
 count_kept call = (same_call call).same_count
@@ -109,24 +106,6 @@ reads_exactly row r e = record {
 pub read_lettered : (call : Request) (row : List ℕ) (r : Result Request RowFault) → get_or row 0 0 ≡ letter call → r ≡ read_as (filled call []) row → r ≡ read_answer row
 unfolding read_answer
 read_lettered call row r c e = e ∙ sym (ap (λ o. read_by o row) (ap call_lettered c ∙ (same_call call).lettered))
-
-unlettered : (c : ℕ) (qs : List Request) → ((q : Request) → c ≡ letter q → ⊥) → first_lettered c qs ≡ None
-unlettered c [] other = refl
-unlettered c (q ∷ qs) other =
-    cond_both (eqb c (letter q)) (Some q) (first_lettered c qs) (λ o. o ≡ None)
-    (λ t. absurd (other q ((Decides-eqb c (letter q)).0 t))) (λ f. unlettered c qs other)
-
--- a row with the letter of no call
-pub read_unlettered : (row : List ℕ) → ((q : Request) → get_or row 0 0 ≡ letter q → ⊥) → Err Letter ≡ read_answer row
-unfolding read_answer call_lettered
-read_unlettered row other = sym (ap (λ o. read_by o row) (unlettered (get_or row 0 0) all_calls other))
-
--- an empty row has no letter
-pub read_empty : (row : List ℕ) → get_or row 0 0 ≡ 0 → Err Letter ≡ read_answer row
-read_empty row e = read_unlettered row (λ q so. omega (arith, (same_call q).some_letter))
-
-pub length_row_le : (q : Request) → length (row_bytes q) ≤ 62
-length_row_le q = omega (arith, length_line (letter q) (numbers q), (same_call q).few)
 
 pub same_from_row : (p q : Request) → Fits p → Fits q → row_bytes p ≡ row_bytes q → p ≡ q
 same_from_row p q f g e = let so : Ok p ≡ Ok q = sym (read_written p f) ∙ ap read_answer e ∙ read_written q g in cc

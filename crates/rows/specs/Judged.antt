@@ -1,6 +1,7 @@
 -- A row at its place in a page.
 use Rattle.std.specs.Prelude.{ℕ, ◌+◌, Bool, cond, not, List, [], ◌∷◌, Some, None, Ok, Err, Option, Result, ◌==◌, nat_lt, slice_index}
 use Rattle.rows.specs.Faults.{in_row}
+use Rattle.rows.specs.Pages.{Reading}
 use Rattle.rows.specs.Requests.{read_answer}
 use Rattle.rows.specs.declared.fault.Numbered.{Numbered}
 use Rattle.rows.specs.declared.fault.PageFault.{PageFault}
@@ -48,3 +49,7 @@ rows_behind (row ∷ rows) = rows
 abbrev pub number_behind : ℕ → List (List ℕ) → ℕ
 number_behind number [] = number
 number_behind number (row ∷ rows) = number + 1
+
+-- Where the reading of a page stands once the next row is taken.
+abbrev pub behind : Reading → Reading
+behind reading = record { row = number_behind reading.row reading.left; left = rows_behind reading.left }

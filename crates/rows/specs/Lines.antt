@@ -69,3 +69,15 @@ numbers_answer n row = cond (shaped n row) (numbers_from n 0 row) (Err Length)
 pub record ReadsExactly {T : Type 0} (fits : T → Type 0) (bytes : T → List ℕ) (row : List ℕ) (r : Result T RowFault) : Type 0 where
   pub only_its_row : (value : T) → r ≡ Ok value → fits value × (row ≡ bytes value)
   pub its_row : (value : T) → fits value → row ≡ bytes value → r ≡ Ok value
+
+-- What is written for a value reads back as that value.
+abbrev pub WrittenReadsBack : {T : Type 0} → (T → Type 0) → (T → List ℕ) → (List ℕ → Result T RowFault) → Type 0
+WrittenReadsBack {T = T} fits bytes said = (value : T) → fits value → said (bytes value) ≡ Ok value
+
+-- A row that reads as a value is the row that is written for it.
+abbrev pub NoOtherIsRead : {T : Type 0} → (T → Type 0) → (T → List ℕ) → (List ℕ → Result T RowFault) → Type 0
+NoOtherIsRead {T = T} fits bytes said = (row : List ℕ) (value : T) → said row ≡ Ok value → fits value × (row ≡ bytes value)
+
+-- No two values have the same row.
+abbrev pub RowsTellApart : {T : Type 0} → (T → Type 0) → (T → List ℕ) → Type 0
+RowsTellApart {T = T} fits bytes = (one other : T) → fits one → fits other → bytes one ≡ bytes other → one ≡ other

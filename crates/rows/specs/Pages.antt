@@ -25,3 +25,12 @@ EndedButTheLast (row ∷ next ∷ rows) = Ended row × EndedButTheLast (next ∷
 -- The rows of a page joined are the page, and each but the last ends with its only line feed.
 abbrev pub RowsMakeThePage : Type 0
 RowsMakeThePage = (page : List ℕ) → (flat_map (λ row. row) (rows_of page) ≡ page) × EndedButTheLast (rows_of page)
+
+-- Where the reading of a page stands: how many rows were handed out, and the rows that are left.
+pub record Reading : Type 0 where
+  pub row : ℕ
+  pub left : List (List ℕ)
+
+-- A page of which no row was handed out.
+abbrev pub unread : List ℕ → Reading
+unread page = record { row = 0; left = rows_of page }

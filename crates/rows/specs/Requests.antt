@@ -1,6 +1,6 @@
 -- A request as a row: its letter, its numbers as fields, and a line feed.
-use Rattle.std.specs.Prelude.{◌≡◌, ℕ, cond, List, [], ◌∷◌, length, Some, None, Ok, Err, Option, Result, ◌==◌, slice_index}
-use Rattle.rows.specs.Lines.{line, Fit, numbers_answer}
+use Rattle.std.specs.Prelude.{ℕ, cond, List, [], ◌∷◌, length, Some, None, Ok, Err, Option, Result, ◌==◌, slice_index}
+use Rattle.rows.specs.Lines.{line, Fit, NoOtherIsRead, RowsTellApart, WrittenReadsBack, numbers_answer}
 use Rattle.rows.specs.declared.fault.RowFault.{RowFault}
 use Rattle.rows.specs.declared.fault.RowFault.TheVariants.{Letter}
 use Rattle.rows.specs.declared.request.Request.{Request}
@@ -91,12 +91,12 @@ read_answer row = read_by (call_lettered (slice_index row 0)) row
 
 -- The row that is written for a request reads back as that request.
 abbrev pub WrittenRowsReadBack : Type 0
-WrittenRowsReadBack = (q : Request) → Fits q → read_answer (row_bytes q) ≡ Ok q
+WrittenRowsReadBack = WrittenReadsBack Fits row_bytes read_answer
 
 -- A row that reads as a request is the row that is written for it.
 abbrev pub NoOtherRowIsRead : Type 0
-NoOtherRowIsRead = (row : List ℕ) (q : Request) → read_answer row ≡ Ok q → Fits q × (row ≡ row_bytes q)
+NoOtherRowIsRead = NoOtherIsRead Fits row_bytes read_answer
 
 -- No two requests have the same row.
 abbrev pub RowsTellRequestsApart : Type 0
-RowsTellRequestsApart = (p q : Request) → Fits p → Fits q → row_bytes p ≡ row_bytes q → p ≡ q
+RowsTellRequestsApart = RowsTellApart Fits row_bytes

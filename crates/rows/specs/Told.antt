@@ -1,9 +1,10 @@
 -- An answer as a row: A with the figures told, or R with the ground's number, the row and the place.
-use Rattle.std.specs.Prelude.{◌≡◌, ℕ, ◌/◌, cond, List, [], ◌∷◌, length, Some, None, Ok, Err, Option, Result, ◌==◌, slice_index}
+use Rattle.std.specs.Prelude.{ℕ, ◌/◌, cond, List, [], ◌∷◌, length, Some, None, Ok, Err, Option, Result, ◌==◌, slice_index}
 use Rattle.refusal.specs.Grounds.{ground_number, ground_numbered}
 use Rattle.refusal.specs.declared.ground.Ground.{Ground}
+use Rattle.refusal.specs.declared.refusal.Refusal.{Refusal}
 use Rattle.rows.specs.Faults.{malformed, page_ground, page_row, page_place}
-use Rattle.rows.specs.Lines.{line, Fit, numbers_answer}
+use Rattle.rows.specs.Lines.{line, Fit, NoOtherIsRead, RowsTellApart, WrittenReadsBack, numbers_answer}
 use Rattle.rows.specs.declared.answer.AnswerRow.{AnswerRow}
 use Rattle.rows.specs.declared.answer.AnswerRow.TheVariants.{Told, Refused}
 use Rattle.rows.specs.declared.answer.Figures.{Figures}
@@ -99,14 +100,22 @@ unfoldable pub answer_read : List ℕ → Result AnswerRow RowFault
 answer_read row =
     cond (slice_index row 0 == 65) (telling (figures_answer row)) (cond (slice_index row 0 == 82) (refusing_with (numbers_answer 3 row)) (Err Letter))
 
+-- The answer row that tells a refusal in the row with this number.
+abbrev pub refused_in : ℕ → Refusal → AnswerRow
+refused_in row refusal = Refused refusal.ground row refusal.place
+
 -- The answer row that tells a page's fault.
 abbrev pub fault_answer : PageFault → AnswerRow
 fault_answer fault = Refused (page_ground fault) (page_row fault) (page_place fault)
 
 -- The row that is written for an answer reads back as that answer.
 abbrev pub WrittenAnswersReadBack : Type 0
-WrittenAnswersReadBack = (a : AnswerRow) → AnswerFits a → answer_read (answer_bytes a) ≡ Ok a
+WrittenAnswersReadBack = WrittenReadsBack AnswerFits answer_bytes answer_read
 
 -- A row that reads as an answer is the row that is written for it.
 abbrev pub NoOtherAnswerIsRead : Type 0
-NoOtherAnswerIsRead = (row : List ℕ) (a : AnswerRow) → answer_read row ≡ Ok a → AnswerFits a × (row ≡ answer_bytes a)
+NoOtherAnswerIsRead = NoOtherIsRead AnswerFits answer_bytes answer_read
+
+-- No two answers have the same row.
+abbrev pub AnswersTellApart : Type 0
+AnswersTellApart = RowsTellApart AnswerFits answer_bytes

@@ -1,12 +1,12 @@
 // An answer as a row: A with the figures told, or R with the ground's number, the row and the place.
-ghost use Rattle.std.specs.Prelude.{◌≡◌};
-ghost use Rattle.rows.specs.Lines.{ReadsExactly, Wrote, line as LineOf, numbers_answer};
-ghost use Rattle.rows.specs.Told.{AnswerFits, answer_bytes, answer_numbers, answer_read, fault_answer, figures_answer, figures_as, figures_listed, refusing_with, telling};
-ghost use Rattle.rows.specs.declared.answer.Figures.TheVariants.{Five, Four, One, Six, Three, Two};
+ghost use Rattle.std.specs.Prelude.{◌≡◌, ◌≤◌, length, IfOk};
+ghost use Rattle.rows.specs.Lines.{Wrote, line as LineOf, numbers_answer};
+ghost use Rattle.rows.specs.Told.{AnswersTellApart, NoOtherAnswerIsRead, WrittenAnswersReadBack, answer_bytes, answer_numbers, answer_read, fault_answer, figures_answer, figures_listed, refused_in, refusing_with};
 
 use crate::fault::{FieldFault, PageFault, RowFault};
 use crate::field::FIELD_WIDTH;
-use crate::line::{read_fields, write_line};
+use crate::line::{letter_of, read_fields, write_line};
+use crate::row::Row;
 use refusal::{Ground, Refusal};
 
 // One to six figures that a call answers.
@@ -31,116 +31,71 @@ pub enum AnswerRow {
     },
 }
 
+impl AnswerRow {
+    // The answer row that tells a refusal in the row with this number.
+    pub fn refused(row: u64, refusal: Refusal) -> AnswerRow
+        ensures { result ≡ refused_in row refusal }
+    {
+        let Refusal { ground, place } = refusal;
+        AnswerRow::Refused { ground, row, place }
+    }
+}
+
 impl PageFault {
     // The answer row that tells the fault.
     pub fn answer(self) -> AnswerRow
         ensures { result ≡ fault_answer self }
     {
-        let refusal = self.refusal();
-        AnswerRow::Refused {
-            ground: refusal.ground,
-            row: self.row(),
-            place: refusal.place,
-        }
+        AnswerRow::refused(self.row(), self.refusal())
     }
 }
 
-fn read_one(row: &[u8]) -> Result<Figures, RowFault>
-    ensures { result ≡ figures_as (One 0) row.now }
-{
-    let [a] = read_fields::<1>(row)?;
-    Ok(Figures::One(a))
-}
-
-fn read_two(row: &[u8]) -> Result<Figures, RowFault>
-    ensures { result ≡ figures_as (Two 0 0) row.now }
-{
-    let [a, b] = read_fields::<2>(row)?;
-    Ok(Figures::Two(a, b))
-}
-
-fn read_three(row: &[u8]) -> Result<Figures, RowFault>
-    ensures { result ≡ figures_as (Three 0 0 0) row.now }
-{
-    let [a, b, c] = read_fields::<3>(row)?;
-    Ok(Figures::Three(a, b, c))
-}
-
-fn read_four(row: &[u8]) -> Result<Figures, RowFault>
-    ensures { result ≡ figures_as (Four 0 0 0 0) row.now }
-{
-    let [a, b, c, d] = read_fields::<4>(row)?;
-    Ok(Figures::Four(a, b, c, d))
-}
-
-fn read_five(row: &[u8]) -> Result<Figures, RowFault>
-    ensures { result ≡ figures_as (Five 0 0 0 0 0) row.now }
-{
-    let [a, b, c, d, e] = read_fields::<5>(row)?;
-    Ok(Figures::Five(a, b, c, d, e))
-}
-
-fn read_six(row: &[u8]) -> Result<Figures, RowFault>
-    ensures { result ≡ figures_as (Six 0 0 0 0 0 0) row.now }
-{
-    let [a, b, c, d, e, f] = read_fields::<6>(row)?;
-    Ok(Figures::Six(a, b, c, d, e, f))
-}
-
 // The figures in a row, whose length tells how many there are.
+#[tactic(auto, unfolding(crate::specs::Told::figures_long))]
 fn read_figures(row: &[u8]) -> Result<Figures, RowFault>
     ensures { result ≡ figures_answer row.now }
 {
     match row.len() / FIELD_WIDTH {
-        1 => read_one(row),
-        2 => read_two(row),
-        3 => read_three(row),
-        4 => read_four(row),
-        5 => read_five(row),
-        6 => read_six(row),
+        1 => {
+            let [a] = read_fields::<1>(row)?;
+            Ok(Figures::One(a))
+        }
+        2 => {
+            let [a, b] = read_fields::<2>(row)?;
+            Ok(Figures::Two(a, b))
+        }
+        3 => {
+            let [a, b, c] = read_fields::<3>(row)?;
+            Ok(Figures::Three(a, b, c))
+        }
+        4 => {
+            let [a, b, c, d] = read_fields::<4>(row)?;
+            Ok(Figures::Four(a, b, c, d))
+        }
+        5 => {
+            let [a, b, c, d, e] = read_fields::<5>(row)?;
+            Ok(Figures::Five(a, b, c, d, e))
+        }
+        6 => {
+            let [a, b, c, d, e, f] = read_fields::<6>(row)?;
+            Ok(Figures::Six(a, b, c, d, e, f))
+        }
         _ => Err(RowFault::Length),
     }
 }
 
-fn read_told(row: &[u8]) -> Result<AnswerRow, RowFault>
-    ensures { result ≡ telling (figures_answer row.now) }
-{
-    let figures = read_figures(row)?;
-    Ok(AnswerRow::Told(figures))
-}
-
+// The refusal in a row, whose first field has to be the number of a ground.
 fn read_refused(row: &[u8]) -> Result<AnswerRow, RowFault>
     ensures { result ≡ refusing_with (numbers_answer 3 row.now) }
 {
-    let [number, of, place] = read_fields::<3>(row)?;
-    match Ground::from_number(number) {
-        Some(ground) => Ok(AnswerRow::Refused {
-            ground,
-            row: of,
-            place,
-        }),
-        None => Err(RowFault::Field(FieldFault { place: 1 })),
-    }
-}
-
-// The answer in a row, or the first that is wrong with it: its letter, its length or end, its first malformed field, or a
-// first field that is the number of no ground.
-pub fn read_answer(row: &[u8]) -> Result<AnswerRow, RowFault>
-    ensures answer { result ≡ answer_read row.now }
-    ensures exactly { ReadsExactly AnswerFits answer_bytes row.now result }
-{
-    let [letter, ..] = row else {
-        return Err(RowFault::Letter);
-    };
-    match *letter as char {
-        'A' => read_told(row),
-        'R' => read_refused(row),
-        _ => Err(RowFault::Letter),
-    }
+    let [number, row, place] = read_fields::<3>(row)?;
+    let ground = Ground::from_number(number).ok_or(FieldFault { place: 1 })?;
+    Ok(AnswerRow::Refused { ground, row, place })
 }
 
 fn write_figures(figures: Figures, buffer: &mut [u8]) -> Result<usize, Refusal>
-    ensures { Wrote (figures_listed figures) (LineOf 65 (figures_listed figures)) buffer.old buffer.new result }
+    ensures wrote { Wrote (figures_listed figures) (LineOf 65 (figures_listed figures)) buffer.old buffer.new result }
+    ensures within { IfOk result (λ size. size ≤ length buffer.old) }
 {
     match figures {
         Figures::One(a) => write_line(b'A', &[a], buffer),
@@ -152,14 +107,35 @@ fn write_figures(figures: Figures, buffer: &mut [u8]) -> Result<usize, Refusal>
     }
 }
 
-// Writes an answer's row at the front of the buffer, which has to have 62 bytes, and answers its length; or refuses and writes nothing.
-pub fn write_answer(answer: AnswerRow, buffer: &mut [u8]) -> Result<usize, Refusal>
-    ensures { Wrote (answer_numbers answer) (answer_bytes answer) buffer.old buffer.new result }
-{
-    match answer {
-        AnswerRow::Told(figures) => write_figures(figures, buffer),
-        AnswerRow::Refused { ground, row, place } => {
-            write_line(b'R', &[ground.number(), row, place], buffer)
+impl Row for AnswerRow {
+    ghost numbers = { answer_numbers };
+
+    ghost bytes = { answer_bytes };
+
+    ghost said = { answer_read };
+
+    // A first field of R that is the number of no ground is malformed too.
+    #[tactic(auto, unfolding(crate::specs::Told::answer_read))]
+    fn read(row: &[u8]) -> Result<AnswerRow, RowFault> {
+        match letter_of(row)? {
+            'A' => read_figures(row).map(AnswerRow::Told),
+            'R' => read_refused(row),
+            _ => Err(RowFault::Letter),
         }
     }
+
+    fn write(self, buffer: &mut [u8]) -> Result<usize, Refusal> {
+        match self {
+            AnswerRow::Told(figures) => write_figures(figures, buffer),
+            AnswerRow::Refused { ground, row, place } => {
+                write_line(b'R', &[ground.number(), row, place], buffer)
+            }
+        }
+    }
+
+    fn no_other_row_is_read()
+        ensures back { WrittenAnswersReadBack }
+        ensures only { NoOtherAnswerIsRead }
+        ensures apart { AnswersTellApart }
+    {}
 }

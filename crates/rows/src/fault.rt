@@ -68,8 +68,7 @@ impl RowFault {
         ensures { result ≡ row_place self }
     {
         match self {
-            RowFault::Letter => 0,
-            RowFault::Length => 0,
+            RowFault::Letter | RowFault::Length => 0,
             RowFault::Field(fault) => fault.place,
         }
     }
@@ -99,5 +98,13 @@ impl PageFault {
             PageFault::TooLong => Refusal::of(Ground::PageTooLong),
             PageFault::InRow(numbered) => numbered.fault.refusal(),
         }
+    }
+}
+
+impl From<PageFault> for Refusal {
+    ghost from_gives = { λ e r. r ≡ refuse (page_ground e) (page_place e) };
+
+    fn from(page_fault: PageFault) -> Refusal {
+        page_fault.refusal()
     }
 }

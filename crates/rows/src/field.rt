@@ -51,6 +51,7 @@ pub fn write_columns(value: u64, out: &mut [u8])
 {
     let mut rest = value;
     let width = out.len();
+    // By index, since a proof learns nothing of what is written through `iter_mut().rev()`.
     for i in (0..width).rev() {
         out[i] = column_of(rest, i + 1 == width);
         rest /= 10;

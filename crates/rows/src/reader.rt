@@ -1,7 +1,10 @@
 // A page row by row, each a part of the page.
-ghost use Rattle.std.specs.Prelude.{◌≡◌, ◌+◌, ◌<◌, ◌≤◌, [], ◌∷◌, length, take, drop, MatchOption};
-ghost use Rattle.rows.specs.Pages.{rows_of};
+ghost use Rattle.std.specs.Prelude.{◌≡◌, ◌+◌, ◌^◌, ◌<◌, ◌≤◌, [], ◌∷◌, length, take, drop, MatchOption, ◌==◌, position};
+ghost use Rattle.rows.specs.Judged.{behind};
+ghost use Rattle.rows.specs.Pages.{Reading, rows_of, unread};
 ghost use Rattle.std.specs.Iterator.{at_most};
+
+use std::marker::Model;
 
 // A row with its number, counted from 1, and its line feed where it has one.
 #[derive(Clone, Copy)]
@@ -10,14 +13,27 @@ pub struct NumberedRow<'a> {
     pub bytes: &'a [u8],
 }
 
-// Reads a page: the rows in the first `at` bytes were handed out, `row` of them.
+// Reads a page: `row` rows were handed out, and `rest` is left.
 #[derive(Drop)]
 pub struct Reader<'a> {
-    page: &'a [u8],
-    at: usize,
+    rest: &'a [u8],
     row: u64,
-    ghost within: { at ≤ length page.now },
-    ghost counted: { row ≤ at },
+}
+
+// A reader is seen as how many rows it handed out, and the rows that are left. Each row has a byte, so they can be counted.
+impl<'a> Model for Reader<'a> {
+    ghost Value = { Reading };
+
+    ghost view = { λ reader. record { row = reader.row; left = rows_of reader.rest.now } };
+
+    ghost invariant = { λ reader. reader.row + length reader.rest.now < 2 ^ 63 };
+}
+
+// Where the first line feed stands.
+fn first_feed(rest: &[u8]) -> Option<usize>
+    ensures { result ≡ position (λ byte. byte == 10) rest.now }
+{
+    rest.iter().position(|byte| *byte == b'\n')
 }
 
 // How many bytes the first row of `rest` has.
@@ -27,51 +43,39 @@ fn first_row_len(rest: &[u8]) -> usize
     ensures some { 0 < result }
     ensures first { rows_of rest.now ≡ take result rest.now ∷ rows_of (drop result rest.now) }
 {
-    for (i, byte) in rest.iter().enumerate() {
-        if *byte == b'\n' {
-            return i + 1;
-        }
-    }
-    rest.len()
+    first_feed(rest).map_or(rest.len(), |i| i + 1)
 }
 
 impl<'a> Reader<'a> {
     // A reader at the start of a page, of any bytes and any length.
     pub fn new(page: &'a [u8]) -> Reader<'a>
-        ensures { (result.page.now ≡ page.now) × (result.at ≡ 0) × (result.row ≡ 0) }
+        ensures { result ≡ unread page.now }
     {
-        Reader {
-            page,
-            at: 0,
-            row: 0,
-        }
+        Reader { rest: page, row: 0 }
     }
 
     // The next row, up to and including its line feed, or None at the end of the page.
     pub fn next_row(&mut self) -> Option<NumberedRow<'a>>
-        ensures page { self.new.page.now ≡ self.old.page.now }
-        ensures row { MatchOption result ((rows_of (drop self.old.at self.old.page.now) ≡ []) × (self.new.at ≡ self.old.at) × (self.new.row ≡ self.old.row)) (λ row. (row.number ≡ self.old.row + 1) × (self.new.row ≡ row.number) × (rows_of (drop self.old.at self.old.page.now) ≡ row.bytes.now ∷ rows_of (drop self.new.at self.old.page.now))) }
+        ensures moved { self.new ≡ behind self.old }
+        ensures row { MatchOption result (self.old.left ≡ []) (λ row. (row.number ≡ self.old.row + 1) × (self.old.left ≡ row.bytes.now ∷ self.new.left)) }
     {
-        if self.at == self.page.len() {
+        if self.rest.is_empty() {
             return None;
         }
-        let rest = &self.page[self.at..];
-        let size = first_row_len(rest);
-        self.at += size;
+        let (bytes, rest) = self.rest.split_at(first_row_len(self.rest));
+        self.rest = rest;
         self.row += 1;
-        Some(NumberedRow {
-            number: self.row,
-            bytes: &rest[0..size],
-        })
+        let number = self.row;
+        Some(NumberedRow { number, bytes })
     }
 }
 
 impl<'a> Iterator for Reader<'a> {
     type Item = NumberedRow<'a>;
 
-    ghost next_gives = { λ s r t. (t.page.now ≡ s.page.now) × MatchOption r (rows_of (drop s.at s.page.now) ≡ []) (λ row. (row.number ≡ s.row + 1) × (t.row ≡ row.number) × (rows_of (drop s.at s.page.now) ≡ row.bytes.now ∷ rows_of (drop t.at t.page.now))) };
+    ghost next_gives = { λ s r t. (t ≡ behind s) × MatchOption r (s.left ≡ []) (λ row. (row.number ≡ s.row + 1) × (s.left ≡ row.bytes.now ∷ t.left)) };
 
-    ghost remaining = { λ s. at_most (length (rows_of (drop s.at s.page.now))) };
+    ghost remaining = { λ s. at_most (length s.left) };
 
     fn next(&mut self) -> Option<NumberedRow<'a>> {
         self.next_row()

@@ -1,6 +1,6 @@
 use Rattle.std.proofs.Common.{◌≡◌, ◌+◌, ◌-◌, eqb, length, ap, ◌∙◌, subst, arith}
-use Rattle.rows.specs.Fields.{mark, columns}
-use Rattle.rows.proofs.Columns.{Written, written_none, written_more, written_all}
+use Rattle.rows.specs.Fields.{mark}
+use Rattle.rows.proofs.Columns.{Written, written_none, written_more}
 use Rattle.rows.proofs.field.write_columns.Goals as goal
 
 pub loop-i-init : goal.loop-i-init
@@ -13,9 +13,3 @@ loop-i-preserved c =
     written_more c.loop-i.out c.args.value (c.loop-i.i - 1) c.loop-i.rest c.column_of.result (omega arith)
     (subst (λ i. Written c.loop-i.out c.args.value i c.loop-i.rest) back c.loop-i.invariant)
     (c.column_of.ensures ∙ ap (λ k. mark (eqb (c.loop-i.i - 1 + 1) k) c.loop-i.rest) long)
-
-pub returns : goal.returns
-returns c =
-    let end : c.loop-i.i ≡ 0 = omega arith in
-    written_all c.loop-i.out c.args.value c.loop-i.rest (subst (λ i. Written c.loop-i.out c.args.value i c.loop-i.rest) end c.loop-i.invariant)
-    ∙ ap (λ k. columns k c.args.value) c.loop-i.auto.out

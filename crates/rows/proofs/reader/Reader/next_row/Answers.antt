@@ -1,13 +1,10 @@
-use Rattle.std.proofs.Common.{drop, refl, arith, length-drop}
-use Rattle.rows.proofs.Paged.{rows_none, next_row}
+use Rattle.std.proofs.Common.{◌≡◌, length, arith}
+use Rattle.rows.proofs.Paged.{nothing_taken}
 use Rattle.rows.proofs.reader.Reader.next_row.Goals as goal
 
-pub returns-then-self : goal.returns-then-self
-returns-then-self c =
-    let self = c.args.self.now in
-    record { page = refl; row = (rows_none (drop self.at self.page.now) (omega (arith, length-drop self.at self.page.now)), refl, refl) }
-
-pub returns : goal.returns
-returns c =
-    let self = c.args.self.now in
-    record { page = refl; row = (refl, refl, next_row self.page.now self.at c.first_row_len-size.result c.first_row_len-size.ensures.first) }
+pub returns-then-is_empty : goal.returns-then-is_empty
+returns-then-is_empty c =
+    let inside = c.self.inside in
+    let none : length inside.rest.now ≡ 0 = grind arith in
+    let taken = nothing_taken c.args.self.now inside.row inside.rest.now c.self.view_is none in
+    record { moved = taken.0; row = taken.1 }
