@@ -1,45 +1,19 @@
 // What is wrong with a line, and where.
-use std::alloc::{AllocError, AllocFailed};
-use std::fmt;
+use std::alloc::AllocError;
+use thiserror::Error;
 
 // Columns count from 1.
-#[derive(Clone, Copy, Debug)]
+#[derive(Clone, Copy, Debug, PartialEq, Eq, Error)]
 pub enum LineFault {
     // a character that is neither a digit nor a blank
+    #[error("column {column}: only digits and blanks are read")]
     NoDigit { column: usize },
     // the number that has this digit is too large to hold
+    #[error("column {column}: the number is too large")]
     TooLarge { column: usize },
     // more numbers than the reader takes, the first of those too many ending at this column
+    #[error("column {column}: more than {most} numbers stand on the line")]
     TooMany { column: usize, most: usize },
-    NoMemory,
-}
-
-impl From<AllocError> for LineFault {
-    fn from(_e: AllocError) -> LineFault {
-        LineFault::NoMemory
-    }
-}
-
-impl<T: Drop> From<AllocFailed<T>> for LineFault {
-    fn from(_e: AllocFailed<T>) -> LineFault {
-        LineFault::NoMemory
-    }
-}
-
-impl fmt::Display for LineFault {
-    fn fmt<W: fmt::Write>(&self, f: &mut fmt::Formatter<W>) -> fmt::Result {
-        match *self {
-            LineFault::NoDigit { column } => {
-                write!(f, "column {column}: only digits and blanks are read")
-            }
-            LineFault::TooLarge { column } => write!(f, "column {column}: the number is too large"),
-            LineFault::TooMany { column, most } => {
-                write!(
-                    f,
-                    "column {column}: more than {most} numbers stand on the line"
-                )
-            }
-            LineFault::NoMemory => write!(f, "there is no memory left"),
-        }
-    }
+    #[error("there is no memory left")]
+    NoMemory(#[from(alloc)] AllocError),
 }

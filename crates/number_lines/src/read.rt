@@ -15,10 +15,9 @@ pub fn read_numbers(heap: Global, line: &[u8], most: usize) -> Result<Vec<u64>, 
         match *byte as char {
             '0'..='9' => begun = Some(with_digit(begun, *byte, column)?),
             ' ' | '\t' | '\r' | '\n' => {
-                if let Some(number) = begun {
+                if let Some(number) = begun.take() {
                     keep(&mut numbers, number, most, column)?;
                 }
-                begun = None;
             }
             _ => return Err(LineFault::NoDigit { column }),
         }
@@ -32,14 +31,11 @@ pub fn read_numbers(heap: Global, line: &[u8], most: usize) -> Result<Vec<u64>, 
 // The number begun so far, with one digit more.
 fn with_digit(begun: Option<u64>, digit: u8, column: usize) -> Result<u64, LineFault> {
     let value = u64::from(digit.saturating_sub(b'0'));
-    let number = begun.unwrap_or(0);
-    let Some(shifted) = number.checked_mul(10) else {
-        return Err(LineFault::TooLarge { column });
-    };
-    let Some(sum) = shifted.checked_add(value) else {
-        return Err(LineFault::TooLarge { column });
-    };
-    Ok(sum)
+    begun
+        .unwrap_or(0)
+        .checked_mul(10)
+        .and_then(|shifted| shifted.checked_add(value))
+        .ok_or(LineFault::TooLarge { column })
 }
 
 // One number more, if it still fits.

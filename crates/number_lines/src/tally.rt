@@ -1,10 +1,10 @@
 // What became of the lines that a program read.
 ghost use Rattle.std.specs.Prelude.{◌≡◌, ◌&&◌, ◌==◌};
-ghost use Rattle.number_lines.specs.Tallies.{tallied};
+ghost use Rattle.number_lines.specs.Tallies.{answered_by, tallied};
 
 use std::fmt;
 
-#[derive(Clone, Copy)]
+#[derive(Clone, Copy, Debug, PartialEq, Eq)]
 pub enum Outcome {
     Answered,
     Refused,
@@ -12,8 +12,20 @@ pub enum Outcome {
     Blank,
 }
 
+impl Outcome {
+    // What became of a line that was put to two rules: it is answered where the first rule or the second answered it.
+    pub fn or(self, second: Outcome) -> Outcome
+        ensures { result ≡ answered_by self second }
+    {
+        match self {
+            Outcome::Answered => self,
+            _ => second,
+        }
+    }
+}
+
 // How many lines there were of each outcome; blank lines count for nothing.
-#[derive(Clone, Copy)]
+#[derive(Clone, Copy, Debug, Default, PartialEq, Eq)]
 pub struct Tally {
     pub answered: u64,
     pub refused: u64,
@@ -21,39 +33,24 @@ pub struct Tally {
 }
 
 impl Tally {
-    // No line yet.
-    pub const EMPTY: Tally = Tally {
-        answered: 0,
-        refused: 0,
-        unread: 0,
-    };
-
     // The tally with one line more.
-    pub fn with(self, outcome: Outcome) -> Tally
+    pub fn with(mut self, outcome: Outcome) -> Tally
         ensures { result ≡ tallied self outcome }
     {
         match outcome {
-            Outcome::Answered => Tally {
-                answered: self.answered.saturating_add(1),
-                ..self
-            },
-            Outcome::Refused => Tally {
-                refused: self.refused.saturating_add(1),
-                ..self
-            },
-            Outcome::NotUnderstood => Tally {
-                unread: self.unread.saturating_add(1),
-                ..self
-            },
-            Outcome::Blank => self,
+            Outcome::Answered => self.answered = self.answered.saturating_add(1),
+            Outcome::Refused => self.refused = self.refused.saturating_add(1),
+            Outcome::NotUnderstood => self.unread = self.unread.saturating_add(1),
+            Outcome::Blank => {}
         }
+        self
     }
 
     // Whether no line counted.
     pub fn is_empty(self) -> bool
         ensures { result ≡ (self.answered == 0 && (self.refused == 0 && self.unread == 0)) }
     {
-        self.answered == 0 && self.refused == 0 && self.unread == 0
+        self == Tally::default()
     }
 }
 
