@@ -3,30 +3,20 @@
 
 mod show;
 
-use number_lines::{Outcome, Tally, read_numbers};
+use number_lines::{Outcome, answer_lines, read_numbers};
 use show::{MOST_WEIGHTS, show_line};
 use std::io;
-use std::io::{BufRead, BufReader};
+use std::io::BufReader;
 
 // An amount and its weights.
 const MOST_NUMBERS: usize = 1 + MOST_WEIGHTS;
 
+const HINT: &str = "Type an amount and its weights, as in: 10 1 1 1 (whole euros, blanks between).";
+
 fn main(rt: HostRuntime) -> io::Result<()> {
-    let mut input = BufReader::new(rt.alloc(), rt.stdin())?;
-    let mut tally = Tally::EMPTY;
-    for number in 1..u64::MAX {
-        let mut line = Vec::new(rt.alloc());
-        if input.read_until(b'\n', &mut line)? == 0 {
-            break;
-        }
-        tally = tally.with(answer(&rt, number, &line)?);
-    }
-    if tally.is_empty() {
-        return println!(rt;
-            "Type an amount and its weights, as in: 10 1 1 1 (whole euros, blanks between)."
-        );
-    }
-    println!(rt; "{tally}")
+    let input = BufReader::new(rt.alloc(), rt.stdin())?;
+    answer_lines(&rt, input, HINT, |number, line| answer(&rt, number, line))?;
+    Ok(())
 }
 
 fn answer(rt: &HostRuntime, number: u64, line: &[u8]) -> io::Result<Outcome> {

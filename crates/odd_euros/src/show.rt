@@ -1,7 +1,7 @@
 // The tables that a person reads.
 ghost use Rattle.std.specs.Prelude.{◌≡◌, ◌*◌, nat_lt};
 
-use number_lines::Outcome;
+use number_lines::{Outcome, sum_of};
 use sharing::{GreatestRemainder, Running, SharingRule, share_out};
 use std::io;
 
@@ -21,30 +21,26 @@ pub fn show_line(rt: &HostRuntime, amount: u64, weights: &[u64]) -> io::Result<O
         weights,
     )?;
     println!(rt)?;
-    if running || greatest {
-        Ok(Outcome::Answered)
-    } else {
-        Ok(Outcome::Refused)
-    }
+    Ok(running.or(greatest))
 }
 
-// Shows the amount shared by one rule, and tells whether it was shared.
+// Shows the amount shared by one rule, or why the rule refuses.
 fn show_rule<R: SharingRule>(
     rt: &HostRuntime,
     name: &str,
     rule: &R,
     amount: u64,
     weights: &[u64],
-) -> io::Result<bool> {
+) -> io::Result<Outcome> {
     match share_out::<R, MOST_WEIGHTS>(rule, amount, weights) {
         Ok(shares) => {
             println!(rt; "  {name}")?;
             show_shares(rt, amount, weights, &shares)?;
-            Ok(true)
+            Ok(Outcome::Answered)
         }
         Err(refusal) => {
             println!(rt; "  {name}: {refusal}")?;
-            Ok(false)
+            Ok(Outcome::Refused)
         }
     }
 }
@@ -63,14 +59,6 @@ fn show_shares(rt: &HostRuntime, amount: u64, weights: &[u64], shares: &[u64]) -
         println!(rt; "    {position:>8}  {weight:>10}  {share:>10}{mark}")?;
     }
     println!(rt; "         sum  {total:>10}  {sum:>10}")
-}
-
-fn sum_of(numbers: &[u64]) -> u64 {
-    let mut sum = 0u64;
-    for number in numbers {
-        sum = sum.saturating_add(*number);
-    }
-    sum
 }
 
 // Whether a share is above the proportion of its weight, so that an odd euro fell to it.

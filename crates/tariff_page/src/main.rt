@@ -1,28 +1,12 @@
 // Answers a page of requests from standard input, row by row, on standard output: by the edition of 2013, the running rule and book 0.
 #![tactic(auto)]
 
-ghost use Rattle.std.specs.Prelude.{◌≤◌, length, IfOk};
-
 use page::{Page, PageError};
-use rows::{LONGEST_PAGE, LONGEST_ROW};
+use page_input::read_page;
+use rows::LONGEST_ROW;
 use std::alloc::AllocError;
 use std::io;
-use std::io::{Read, Write};
-
-// Reads until the input ends or `page` is full, and answers how many bytes came.
-fn read_page<R: Read>(input: &mut R, page: &mut [u8]) -> io::Result<usize>
-    ensures { IfOk result (λ n. n ≤ length page.old) }
-{
-    let mut filled = 0;
-    while filled < page.len() {
-        let count = input.read(&mut page[filled..])?;
-        if count == 0 {
-            break;
-        }
-        filled += count;
-    }
-    Ok(filled)
-}
+use std::io::Write;
 
 fn io_error(error: PageError) -> io::Error {
     match error {
@@ -36,16 +20,14 @@ fn answer_page(rt: &HostRuntime, bytes: &[u8]) -> io::Result<()> {
     let mut page = Page::new(bytes);
     let mut buffer = [0u8; LONGEST_ROW];
     loop {
-        match page.answer_next(rt.alloc(), &mut buffer) {
-            Ok(0) => return Ok(()),
-            Ok(size) => rt.stdout().write_all(&buffer[0..size])?,
-            Err(error) => return Err(io_error(error)),
+        match page.answer_next(rt.alloc(), &mut buffer).map_err(io_error)? {
+            0 => return Ok(()),
+            size => rt.stdout().write_all(&buffer[0..size])?,
         }
     }
 }
 
 fn main(rt: HostRuntime) -> io::Result<()> {
-    let mut page = vec![in rt.alloc(); 0u8; LONGEST_PAGE + 1]?;
-    let size = read_page(&mut rt.stdin(), &mut page)?;
-    answer_page(&rt, &page[0..size])
+    let page = read_page(rt.alloc(), rt.stdin())?;
+    answer_page(&rt, &page)
 }
