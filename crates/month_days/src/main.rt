@@ -6,9 +6,9 @@ mod table;
 
 use crate::question::{Question, read_question};
 use crate::table::split_year;
-use number_lines::{Outcome, Tally};
+use number_lines::{Outcome, answer_lines};
 use std::io;
-use std::io::{BufRead, BufReader};
+use std::io::BufReader;
 
 const NAMES: [&str; 12] = [
     "January",
@@ -25,22 +25,13 @@ const NAMES: [&str; 12] = [
     "December",
 ];
 
+const HINT: &str =
+    "Type a year, a first and a last date (month times 100 plus day), as in: 2026 116 1231.";
+
 fn main(rt: HostRuntime) -> io::Result<()> {
-    let mut input = BufReader::new(rt.alloc(), rt.stdin())?;
-    let mut tally = Tally::EMPTY;
-    for number in 1..u64::MAX {
-        let mut line = Vec::new(rt.alloc());
-        if input.read_until(b'\n', &mut line)? == 0 {
-            break;
-        }
-        tally = tally.with(answer(&rt, number, &line)?);
-    }
-    if tally.is_empty() {
-        return println!(rt;
-            "Type a year, a first and a last date (month times 100 plus day), as in: 2026 116 1231."
-        );
-    }
-    println!(rt; "{tally}")
+    let input = BufReader::new(rt.alloc(), rt.stdin())?;
+    answer_lines(&rt, input, HINT, |number, line| answer(&rt, number, line))?;
+    Ok(())
 }
 
 // Prints the answer to a line; a blank line has none.

@@ -1,7 +1,7 @@
 // A line of three numbers.
 use number_lines::{LineFault, read_numbers};
 use std::alloc::Global;
-use std::fmt;
+use thiserror::Error;
 
 // A calendar year, and the first and the last date of a term in it.
 #[derive(Clone, Copy)]
@@ -12,25 +12,12 @@ pub struct Question {
 }
 
 // Why a line is no question.
-#[derive(Clone, Copy)]
+#[derive(Clone, Copy, Debug, Error)]
 pub enum Fault {
-    Line(LineFault),
+    #[error(transparent)]
+    Line(#[from] LineFault),
+    #[error("fewer than three numbers stand on the line")]
     TooFewNumbers,
-}
-
-impl From<LineFault> for Fault {
-    fn from(fault: LineFault) -> Fault {
-        Fault::Line(fault)
-    }
-}
-
-impl fmt::Display for Fault {
-    fn fmt<W: fmt::Write>(&self, f: &mut fmt::Formatter<W>) -> fmt::Result {
-        match *self {
-            Fault::Line(fault) => write!(f, "{fault}"),
-            Fault::TooFewNumbers => write!(f, "fewer than three numbers stand on the line"),
-        }
-    }
 }
 
 // The question on a line, or None where the line is blank.

@@ -11,8 +11,8 @@ pub fn split_year(question: Question) -> Result<[(u64, u64, u64); 12], Refusal>
 {
     let year = CalendarYear::new(question.year)?;
     let mut months = [(0, 0, 0); 12];
-    for month in 0..12 {
-        months[month] = year.month_days(question.first, question.last, month as u64 + 1)?;
+    for (month, days) in months.iter_mut().enumerate() {
+        *days = year.month_days(question.first, question.last, month as u64 + 1)?;
     }
     Ok(months)
 }

@@ -5,5 +5,5 @@ use Rattle.month_days.proofs.table.split_year.Given as goal
 -- the months so far
 abbrev pub invariant-loop-month : goal.invariant-loop-month
 invariant-loop-month l =
-    (length l.months ≡ 12)
-    × ((k : ℕ) → k < l.month → Ok (get_or l.months k (0, 0, 0)) ≡ term_answer l.year.year l.question.first l.question.last (k + 1))
+    (length l.days-items ≡ 12)
+    × ((k : ℕ) → k < l.month → Ok (get_or l.days-items k (0, 0, 0)) ≡ term_answer l.year.year l.question.first l.question.last (k + 1))
