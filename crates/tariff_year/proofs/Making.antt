@@ -17,7 +17,7 @@ use Rattle.tariff_year.specs.Years.{makings}
 use Rattle.tariff_year.specs.declared.basis.Basis.{Basis}
 
 -- what a year is made of is lawful
-pub lawful : {E R : Type 0} (edition : EditionMeant E) (rule : RuleMeant R) (basis : Basis E R) → 12 ≤ rule.longest → SharingLaw rule.longest (rule.share basis.rule) → HundredLaw (edition.known basis.edition) (edition.percent basis.edition) → Lawful (makings edition rule basis)
+pub lawful : {E R : Type 0} (edition : EditionMeant E) (rule : RuleMeant R) (basis : Basis E R) → 12 ≤ rule.LONGEST → SharingLaw rule.LONGEST (rule.share basis.rule) → HundredLaw (edition.known basis.edition) (edition.percent basis.edition) → Lawful (makings edition rule basis)
 lawful edition rule basis twelve sharing hundred =
     let year = basis.calendar.year in
     record {

@@ -89,15 +89,15 @@ pass_placed m s v n x at =
     ∙ placed_by_tests n (ltb m.longest (length kws)) none (pass_of m s n x)
 
 -- The front of the places is what was put there.
-front_of_places : (count : ℕ) (ks xs : List ℕ) → count ≡ length xs → ks ≡ in_places 32 xs → take (count - 0) ks ≡ xs
+front_of_places : (count : ℕ) (ks xs : List ℕ) → count ≡ length xs → ks ≡ in_places 32 xs → take count ks ≡ xs
 front_of_places count ks xs long placed =
-    ap (λ (ys : List ℕ). take (count - 0) ys) placed ∙ take_at xs (replicate (32 - length xs) 0) (count - 0) (omega arith)
+    ap (λ (ys : List ℕ). take count ys) placed ∙ take_at xs (replicate (32 - length xs) 0) count (omega arith)
 
 -- What a pass of the gathered takers is answered is told with the number of the system.
 pub pass_told : (m : Makings) (s : State) → Sound s → (n : ℕ) (x : System) → numbered s.systems n ≡ Some x → (cs : List Coupling) → cs ≡ s.couplings
     → (count : ℕ) (ks ms : List ℕ) → count ≡ length (x.kw ∷ map (λ c. c.kw) (leading_down cs n)) → ks ≡ in_places 32 (x.kw ∷ map (λ c. c.kw) (leading_down cs n))
     → ms ≡ in_places 32 (x.mwh ∷ map (λ c. c.mwh) (leading_down cs n))
-    → (r : Result Pass Refusal) → r ≡ pass_answer m.longest m.share x.standing x.permille (take (count - 0) ks) (take (count - 0) ms)
+    → (r : Result Pass Refusal) → r ≡ pass_answer m.longest m.share x.standing x.permille (take count ks) (take count ms)
     → placed n r ≡ unless (in_the_way m s n x) (pass_of m s n x)
 pass_told m s v n x found cs same count ks ms long kws mwhs r told =
     let kw_list = x.kw ∷ map (λ c. c.kw) (leading_down cs n) in
@@ -105,7 +105,7 @@ pass_told m s v n x found cs same count ks ms long kws mwhs r told =
     let paired : count ≡ length mwh_list = omega (arith, takers_counted (λ c. c.kw) x.kw cs n, takers_counted (λ c. c.mwh) x.mwh cs n) in
     let answer : List ℕ → List ℕ → Result Pass Refusal = λ us ws. pass_answer m.longest m.share x.standing x.permille us ws in
     ap (placed n) told
-    ∙ ap (λ (us : List ℕ). placed n (answer us (take (count - 0) ms))) (front_of_places count ks kw_list long kws)
+    ∙ ap (λ (us : List ℕ). placed n (answer us (take count ms))) (front_of_places count ks kw_list long kws)
     ∙ ap (λ (ws : List ℕ). placed n (answer kw_list ws)) (front_of_places count ms mwh_list paired mwhs)
     ∙ ap (λ (ds : List Coupling). placed n (answer (x.kw ∷ map (λ c. c.kw) (leading_down ds n)) (x.mwh ∷ map (λ c. c.mwh) (leading_down ds n)))) same
     ∙ pass_placed m s v n x (entry_from_numbered s.systems n x found)

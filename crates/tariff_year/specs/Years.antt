@@ -26,7 +26,7 @@ makings edition rule basis =
     record {
       calendar = basis.calendar.year;
       book = basis.book;
-      longest = rule.longest;
+      longest = rule.LONGEST;
       share = rule.share basis.rule;
       known = edition.known basis.edition;
       percent = edition.percent basis.edition;

@@ -14,20 +14,13 @@ ghost use Rattle.tariff_year.specs.Years.{Did, makings, told_number};
 use crate::bills::{bill_month, metered_lines};
 use crate::drafts::{Bill, Draft, Unspent};
 use crate::look_up::{bound, entry, listed};
-use crate::systems::LARGEST_NUMBER;
 use crate::year::{MOST_CONTRACTS, TariffYear};
-use billing::yearly_charge;
+use billing::{LARGEST_FEE, LARGEST_KW, LARGEST_NUMBER, yearly_charge};
 use calendar::month_of;
 use edition::Edition;
 use refusal::{Ground, Refusal};
 use sharing::SharingRule;
 use year_model::{Cents, Contract, Started, Tables};
-
-// The largest contracted kW, and the largest kWmax of a month.
-const LARGEST_KW: u64 = 1_000_000;
-
-// The largest fee, in cents a year.
-const LARGEST_FEE: u64 = 1_000_000_000;
 
 impl<E: Edition + Drop, R: SharingRule + Drop> TariffYear<E, R> {
     // A contract at a fixed system, from a first to a last date; answers its number.

@@ -9,9 +9,8 @@ ghost use Rattle.tariff_year.specs.Years.{Did, makings, told_tariffs};
 
 use crate::look_up::{bound, entry, unfixed};
 use crate::questions::found;
-use crate::systems::LARGEST_NUMBER;
 use crate::year::TariffYear;
-use billing::{CARRIERS, Fixing, work_out_fixing};
+use billing::{CARRIERS, Fixing, LARGEST_NUMBER, work_out_fixing};
 use edition::{Edition, percentages};
 use refusal::{Ground, Refusal};
 use sharing::SharingRule;

@@ -10,11 +10,12 @@ ghost use Rattle.tariff_year.specs.Years.{Did, makings};
 use crate::handing::hand_down;
 use crate::look_up::{bound, entry, unfixed};
 use crate::obstacles::first_obstacle;
-use crate::systems::{LARGEST_NUMBER, LOWEST_LEVEL};
+use crate::systems::LOWEST_LEVEL;
 use crate::takers::gather;
 use crate::year::TariffYear;
+use billing::LARGEST_NUMBER;
 use edition::Edition;
-use passing::{Pass, work_out_pass};
+use passing::{Pass, PassFigures, work_out_pass};
 use refusal::Refusal;
 use sharing::SharingRule;
 use year_model::System;
@@ -59,14 +60,16 @@ impl<E: Edition + Drop, R: SharingRule + Drop> TariffYear<E, R> {
         ensures nothing_is_lost { IfOk result (λ pass. sum pass.received ≡ system.standing) }
     {
         let takers = gather(&self.tables.couplings, number, system.kw, system.mwh);
-        work_out_pass(
-            &self.basis.rule,
-            system.standing,
-            system.permille,
-            &takers.kws[0..takers.count],
-            &takers.mwhs[0..takers.count],
-        )
-        .map_err(|refusal| Refusal::at(refusal.ground, number))
+        let figures = PassFigures {
+            amount: system.standing,
+            permille: system.permille,
+            kws: &takers.kws[..takers.count],
+            mwhs: &takers.mwhs[..takers.count],
+        };
+        work_out_pass(&self.basis.rule, &figures).map_err(|refusal| Refusal::at(
+            refusal.ground,
+            number,
+        ))
     }
 
     // Passes this system, or tells what stands in its way.
@@ -116,11 +119,7 @@ impl<E: Edition + Drop, R: SharingRule + Drop> TariffYear<E, R> {
     fn first_in_the_way(&self) -> Option<Refusal>
         ensures { result ≡ first_obstacle (makings E.Edition R.SharingRule self.now.basis) (view self.now.tables) (numbers (view self.now.tables)) }
     {
-        first_obstacle(
-            R::longest_list(),
-            &self.tables.systems,
-            &self.tables.couplings,
-        )
+        first_obstacle(R::LONGEST, &self.tables.systems, &self.tables.couplings)
     }
 
     // Passes every unfixed system of this level, by number; answers the euros that landed.

@@ -4,8 +4,8 @@ ghost use Rattle.year_model.specs.State.{view};
 ghost use Rattle.tariff_year.specs.Questions.{asked, counts_of};
 
 use crate::look_up::{bound, listed};
-use crate::systems::LARGEST_NUMBER;
 use crate::year::TariffYear;
+use billing::LARGEST_NUMBER;
 use calendar::CalendarYear;
 use edition::Edition;
 use refusal::Refusal;

@@ -7,13 +7,11 @@ ghost use Rattle.tariff_year.specs.Years.{Did, makings, told_number};
 
 use crate::look_up::{bound, listed, unfixed};
 use crate::year::{MOST_COUPLINGS, MOST_SYSTEMS, TariffYear};
+use billing::LARGEST_NUMBER;
 use edition::Edition;
 use refusal::{Ground, Refusal};
 use sharing::{LARGEST_AMOUNT, SharingRule};
 use year_model::{Coupling, System};
-
-// The largest number that ten columns hold.
-pub const LARGEST_NUMBER: u64 = 9_999_999_999;
 
 // The category with the largest number.
 const LARGEST_CATEGORY: u64 = 99;

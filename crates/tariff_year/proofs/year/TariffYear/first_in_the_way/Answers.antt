@@ -15,7 +15,7 @@ returns g c =
     let xs = c.deref.result.now in
     let cs = c.deref-2.result.now in
     c.first_obstacle.ensures
-    ∙ ap (λ (k : ℕ). first_way k cs 1 xs) c.longest_list.ensures
-    ∙ ap (λ (ds : List Coupling). first_way g.R.SharingRule.longest ds 1 xs) c.deref-2.ensures.value
-    ∙ ap (λ (ys : List System). first_way g.R.SharingRule.longest s.couplings 1 ys) c.deref.ensures.value
+    ∙ ap (λ (k : ℕ). first_way k cs 1 xs) c.LONGEST.ensures
+    ∙ ap (λ (ds : List Coupling). first_way g.R.SharingRule.LONGEST ds 1 xs) c.deref-2.ensures.value
+    ∙ ap (λ (ys : List System). first_way g.R.SharingRule.LONGEST s.couplings 1 ys) c.deref.ensures.value
     ∙ found_first m s
