@@ -1,12 +1,12 @@
 -- A row that fits keeps what holds of the rows of an entered edition.
-use Rattle.std.proofs.Common.{◌≡◌, ℕ, ◌<◌, ◌≤◌, Bool, true, false, cond, not, ◌&&◌, eqb, List, [], ◌∷◌, ◌++◌, length, get_or, is_some, Some, Ok, Option, sym, refl, ap, ◌∙◌, ⊎_elim, arith}
+use Rattle.std.proofs.Common.{◌≡◌, ℕ, ◌<◌, ◌≤◌, Bool, true, false, cond, not, ◌&&◌, eqb, List, [], ◌∷◌, ◌++◌, length, get_or, is_some, Some, Option, sym, refl, ap, ◌∙◌, ⊎_elim, arith}
 use Rattle.std.specs.List.{AllByRecursion as All}
 use Rattle.std.proofs.ByRecursion.{All-from_get_or, All-get_or, All-push}
 use Rattle.std.proofs.lemmas.List.{get_or_append_left, get_or_push, length_push}
-use Rattle.std.proofs.lemmas.Bool.{and_parts, cases_lt, cond-true, eqb-true, eqb-false, leb-true, lt-ltb, not-true, true≢false}
+use Rattle.std.proofs.lemmas.Bool.{and_parts, cases_lt, eqb-true, eqb-false, leb-true, not-true, true≢false}
 use Rattle.edition.specs.declared.table.Row.{Row}
 use Rattle.edition.specs.Tables.{known_in, row_of, row_sum}
-use Rattle.edition.specs.Entered.{CategoriesWithin, NoCategoryTwice, RowsWhole, enter_answer, fits_table, is_category, no_row, rows_after}
+use Rattle.edition.specs.Entered.{CategoriesWithin, NoCategoryTwice, RowsWhole, fits_table, is_category, no_row}
 
 abbrev pub Sound : List Row → Type 0
 Sound rows = RowsWhole rows × CategoriesWithin rows × NoCategoryTwice rows
@@ -62,11 +62,3 @@ module _ (rows : List Row) (row : Row) (fits : fits_table rows row ≡ true) whe
     each_push (λ other. (1 ≤ other.category) × (other.category ≤ 99)) rows row sound.1 category_within,
     once_push sound.2,
   )
-
--- A row that fits is accepted while there is room.
-module _ (rows : List Row) (row : Row) (fits : fits_table rows row ≡ true) (room : length rows < 8) where
-  pub enter_accepts : enter_answer rows row ≡ Ok tt
-  enter_accepts = cond-true _ _ _ fits ∙ cond-true _ _ _ (lt-ltb (length rows) 8 room)
-
-  pub after_accepts : rows_after rows row ≡ rows ++ row ∷ []
-  after_accepts = rw enter_accepts

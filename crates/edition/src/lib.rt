@@ -6,6 +6,7 @@ mod edition;
 mod edition_2013;
 mod entered;
 mod laws;
+mod row_list;
 mod table;
 
 pub use carrier::{CARRIERS, Carrier};
