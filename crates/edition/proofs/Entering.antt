@@ -1,12 +1,13 @@
 -- A row that fits keeps what holds of the rows of an entered edition.
-use Rattle.std.proofs.Common.{◌≡◌, ℕ, ◌<◌, ◌≤◌, Bool, true, false, cond, not, ◌&&◌, eqb, List, [], ◌∷◌, ◌++◌, length, get_or, is_some, Some, Option, sym, refl, ap, ◌∙◌, ⊎_elim, arith}
+use Rattle.std.proofs.Common.{Bool, true, false, cond, eqb, is_some, Some, Option, refl, ◌≡◌, ℕ, ◌<◌, ◌≤◌, List, [], ◌∷◌, ◌++◌, length, get_or, sym, ap, ◌∙◌, ⊎_elim, arith}
 use Rattle.std.specs.List.{AllByRecursion as All}
 use Rattle.std.proofs.ByRecursion.{All-from_get_or, All-get_or, All-push}
 use Rattle.std.proofs.lemmas.List.{get_or_append_left, get_or_push, length_push}
-use Rattle.std.proofs.lemmas.Bool.{and_parts, cases_lt, eqb-true, eqb-false, leb-true, not-true, true≢false}
+use Rattle.std.proofs.lemmas.Bool.{eqb-false, true≢false, cases_lt}
+use Rattle.std.proofs.lemmas.Bool.Decides.{nat_tests}
 use Rattle.edition.specs.declared.table.Row.{Row}
-use Rattle.edition.specs.Tables.{known_in, row_of, row_sum}
-use Rattle.edition.specs.Entered.{CategoriesWithin, NoCategoryTwice, RowsWhole, fits_table, is_category, no_row}
+use Rattle.edition.specs.Tables.{row_of, known_in, row_sum}
+use Rattle.edition.specs.Entered.{CategoriesWithin, NoCategoryTwice, RowsWhole, fits_table, no_row}
 
 abbrev pub Sound : List Row → Type 0
 Sound rows = RowsWhole rows × CategoriesWithin rows × NoCategoryTwice rows
@@ -26,21 +27,19 @@ unknown_all (row ∷ rows) category unknown =
     (eqb-false _ _ parts.0, unknown_all rows category parts.1)
 
 module _ (rows : List Row) (row : Row) (fits : fits_table rows row ≡ true) where
-  outer : (is_category row.category ≡ true) × ((eqb (row_sum row) 100 && not (known_in rows row.category)) ≡ true)
-  outer = and_parts _ _ fits
-
-  inner : (eqb (row_sum row) 100 ≡ true) × (not (known_in rows row.category) ≡ true)
-  inner = and_parts _ _ outer.1
+  whole : row_sum row ≡ 100
+  whole = grind (arith, nat_tests)
 
   category_within : (1 ≤ row.category) × (row.category ≤ 99)
-  category_within =
-      let bounds = and_parts _ _ outer.0 in
-      (leb-true _ _ bounds.0, leb-true _ _ bounds.1)
+  category_within = (grind (arith, nat_tests), grind (arith, nat_tests))
+
+  unknown : known_in rows row.category ≡ false
+  unknown = grind (arith, nat_tests)
 
   new_category : (k : ℕ) → k < length rows → (get_or rows k no_row).category ≡ row.category → ⊥
   new_category k l =
       All-get_or (λ other. other.category ≡ row.category → ⊥) rows k no_row l
-      (unknown_all rows row.category (not-true _ inner.1))
+      (unknown_all rows row.category unknown)
 
   once_push : NoCategoryTwice rows → NoCategoryTwice (rows ++ row ∷ [])
   once_push once j k before l same =
@@ -58,7 +57,7 @@ module _ (rows : List Row) (row : Row) (fits : fits_table rows row ≡ true) whe
 
   pub sound_push : Sound rows → Sound (rows ++ row ∷ [])
   sound_push sound = (
-    each_push (λ other. row_sum other ≡ 100) rows row sound.0 (eqb-true _ _ inner.0),
+    each_push (λ other. row_sum other ≡ 100) rows row sound.0 whole,
     each_push (λ other. (1 ≤ other.category) × (other.category ≤ 99)) rows row sound.1 category_within,
     once_push sound.2,
   )

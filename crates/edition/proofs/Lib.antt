@@ -1,2 +1,1 @@
-mod EditionLaws
 mod Entering
