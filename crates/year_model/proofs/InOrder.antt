@@ -1,8 +1,9 @@
 -- Lists in which each element stands before those after it, and what filtered and joined lists have.
 use Rattle.std.proofs.Common.{◌≡◌, ℕ, zero, suc, ◌+◌, ◌-◌, ◌<◌, ◌≤◌, Bool, true, List, [], ◌∷◌, ◌++◌, length, get_or, filter, sym, ◌∙◌, subst, arith}
-use Rattle.std.specs.List.{range_with_len, ContainsAt as Has, flat_map, AllByRecursion as All}
+use Rattle.std.specs.List.{range_with_len, Contains, flat_map, AllByRecursion as All}
 use Rattle.std.proofs.lemmas.List.FromFn.{get_or-range_with_len, length-range_with_len}
-use Rattle.std.proofs.ByRecursion.{All-append, All-get_or, all_kept_by, has_append_left, has_append_right}
+use Rattle.std.proofs.ByRecursion.{All-append, All-get_or, all_kept_by}
+use Rattle.std.proofs.lemmas.List.Elements.{All-contains, All-from_recursion, Contains-append_left, Contains-append_right}
 use Rattle.std.proofs.lemmas.Bool.{cond_both, cond-true}
 
 -- Each element stands in this relation to every one after it.
@@ -49,25 +50,28 @@ pub counting_rises : (a n : ℕ) → InOrder (λ j k. j < k) (range_with_len a n
 counting_rises a zero = tt
 counting_rises a (suc n) = (above_all a (a + 1) n (omega arith), counting_rises (a + 1) n)
 
+-- What holds of each element holds of what the list has.
+pub all_has : {X : Type 0} (P : X → Type 0) (xs : List X) (x : X) → All P xs → Contains xs x → P x
+all_has P xs x each has = All-contains P xs x (All-from_recursion P xs each) has
+
 -- A number is among those counted up to it.
-pub has_counting : (a n k : ℕ) → a ≤ k → k < a + n → Has (range_with_len a n) k
+pub has_counting : (a n k : ℕ) → a ≤ k → k < a + n → Contains (range_with_len a n) k
 has_counting a n k low high =
     let long = length-range_with_len a n in
-    (k - a, omega arith, λ d. get_or-range_with_len a n (k - a) d (omega arith) ∙ omega arith)
+    (k - a, omega arith, get_or-range_with_len a n (k - a) k (omega arith) ∙ omega arith)
 
 -- What a list has, it has with one more in front.
-has_later : {X : Type 0} (x y : X) (xs : List X) → Has xs y → Has (x ∷ xs) y
+has_later : {X : Type 0} (x y : X) (xs : List X) → Contains xs y → Contains (x ∷ xs) y
 has_later x y xs has = (suc has.0, omega (arith, has.1), has.2)
 
 -- A filter keeps what passes the test.
-pub has_kept : {X : Type 0} (test : X → Bool) (y : X) → test y ≡ true → (xs : List X) → Has xs y → Has (filter test xs) y
+pub has_kept : {X : Type 0} (test : X → Bool) (y : X) → test y ≡ true → (xs : List X) → Contains xs y → Contains (filter test xs) y
 has_kept {X} test y passes [] (k, inside, is) = absurd (omega arith)
 has_kept {X} test y passes (x ∷ xs) (zero, inside, is) =
-    let same : x ≡ y = is y in
-    rw (cond-true (test x) (x ∷ filter test xs) (filter test xs) (rw same passes)) (0, omega arith, λ d. same)
+    rw (cond-true (test x) (x ∷ filter test xs) (filter test xs) (rw is passes)) (0, omega arith, is)
 has_kept {X} test y passes (x ∷ xs) (suc k, inside, is) =
     let rest = has_kept test y passes xs (k, omega arith, is) in
-    cond_both (test x) (x ∷ filter test xs) (filter test xs) (λ (zs : List X). Has zs y) (λ _. has_later x y (filter test xs) rest) (λ _. rest)
+    cond_both (test x) (x ∷ filter test xs) (filter test xs) (λ (zs : List X). Contains zs y) (λ _. has_later x y (filter test xs) rest) (λ _. rest)
 
 -- What holds of each of the lists holds of the joined list.
 pub all_joined : {X Y : Type 0} (P : Y → Type 0) (f : X → List Y) → ((x : X) → All P (f x)) → (xs : List X) → All P (flat_map f xs)
@@ -75,9 +79,9 @@ all_joined P f each [] = tt
 all_joined P f each (x ∷ xs) = All-append P (f x) (flat_map f xs) (each x) (all_joined P f each xs)
 
 -- The joined list has what one of the lists has.
-pub has_joined : {X Y : Type 0} (f : X → List Y) (x : X) (y : Y) → Has (f x) y → (xs : List X) → Has xs x → Has (flat_map f xs) y
+pub has_joined : {X Y : Type 0} (f : X → List Y) (x : X) (y : Y) → Contains (f x) y → (xs : List X) → Contains xs x → Contains (flat_map f xs) y
 has_joined {X} {Y} f x y there [] (k, inside, is) = absurd (omega arith)
 has_joined {X} {Y} f x y there (z ∷ zs) (zero, inside, is) =
-    has_append_left (f z) (flat_map f zs) y (subst (λ (w : X). Has (f w) y) (sym (is x)) there)
+    Contains-append_left (f z) (flat_map f zs) y (subst (λ (w : X). Contains (f w) y) (sym is) there)
 has_joined {X} {Y} f x y there (z ∷ zs) (suc k, inside, is) =
-    has_append_right (f z) (flat_map f zs) y (has_joined f x y there zs (k, omega arith, is))
+    Contains-append_right (f z) (flat_map f zs) y (has_joined f x y there zs (k, omega arith, is))

@@ -1,6 +1,6 @@
 -- The order of settling: exactly the unfixed systems, by rank of level and then by number.
 use Rattle.std.proofs.Common.{◌≡◌, ℕ, zero, suc, ◌+◌, ◌-◌, ◌<◌, ◌≤◌, true, not, eqb, List, length, Some, None, filter, Option, refl, ap, ◌∙◌, inl, inr, arith}
-use Rattle.std.specs.List.{range_with_len, ContainsAt as Has, flat_map, AllByRecursion as All}
+use Rattle.std.specs.List.{range_with_len, Contains, flat_map, AllByRecursion as All}
 use Rattle.std.proofs.ByRecursion.{All-append, All-weaker, kept_by_passes}
 use Rattle.std.proofs.lemmas.Bool.{and_from, and_parts, eq-eqb, eqb-true, false≢true, not_from_false, not-true}
 use Rattle.year_model.specs.declared.tables.System.{System}
@@ -47,7 +47,7 @@ pub settles_only : (s : State) → All (IsUnfixed s) (settle_order s)
 settles_only s = all_joined (IsUnfixed s) (on_rank s) (λ r. All-weaker (UnfixedOn s r) (IsUnfixed s) (λ n is. is.0) (on_rank s r) (all_on_rank s r)) ranks
 
 -- Every unfixed system is settled.
-pub settles_every : (s : State) → Entered s → (n : ℕ) → IsUnfixed s n → Has (settle_order s) n
+pub settles_every : (s : State) → Entered s → (n : ℕ) → IsUnfixed s n → Contains (settle_order s) n
 settles_every s e n is =
     let r = rank (system_at s n) in
     let level = e.levels (n - 1) (omega arith) in

@@ -1,7 +1,7 @@
 -- Every accepted settle is the run of the accepted, fair passes of exactly the unfixed systems, in order.
 use Rattle.std.proofs.Common.{◌≡◌, ℕ, ◌+◌, ◌-◌, ◌≤◌, List, [], ◌∷◌, length, Some, None, Ok, Option, sym, refl, ap, ◌∙◌, subst, ⊎_elim, arith}
 use Rattle.std.specs.List.{AllByRecursion as All}
-use Rattle.std.proofs.ByRecursion.{all-has, All-weaker}
+use Rattle.std.proofs.ByRecursion.{All-weaker}
 use Rattle.std.proofs.lemmas.Bool.{cond-false}
 use Rattle.refusal.specs.declared.refusal.Refusal.{Refusal}
 use Rattle.year_model.specs.declared.tables.System.{System}
@@ -17,7 +17,7 @@ use Rattle.year_model.proofs.Entered.{entered_after}
 use Rattle.year_model.proofs.EurosInTurn.{emptied_in_turn, lands_in_turn}
 use Rattle.year_model.proofs.FairPasses.{passes_are_fair}
 use Rattle.year_model.proofs.Gifts.{stands_at}
-use Rattle.year_model.proofs.InOrder.{has_counting, in_order_getD, in_order_weaker}
+use Rattle.year_model.proofs.InOrder.{all_has, has_counting, in_order_getD, in_order_weaker}
 use Rattle.year_model.proofs.Lookups.{numbered_from_entry}
 use Rattle.year_model.proofs.PassesInTurn.{Clear, clear_in_turn, euros_in_turn, run_in_turn}
 use Rattle.year_model.proofs.SettleOrder.{settles_every, settles_in_order, settles_only}
@@ -39,7 +39,7 @@ no_obstacles m s (n ∷ ns) none =
 clear_unfixed : (m : Makings) (s : State) → first_obstacle m s (numbers s) ≡ None → (n : ℕ) → IsUnfixed s n → Clear m s (rank (system_at s n)) n
 clear_unfixed m s none n is =
     let x = system_at s n in
-    let there = all-has (λ k. obstacle m s k (numbered s.systems k) ≡ None) (numbers s) n (no_obstacles m s (numbers s) none) (has_counting 1 (length s.systems) n is.0.0 (omega arith)) in
+    let there = all_has (λ k. obstacle m s k (numbered s.systems k) ≡ None) (numbers s) n (no_obstacles m s (numbers s) none) (has_counting 1 (length s.systems) n is.0.0 (omega arith)) in
     let here : obstacle m s n (Some x) ≡ None = rw (numbered_from_entry s.systems n no_system is.0.0 is.0.1) at there in
     record { number = is.0; unfixed = is.1; free = sym (cond-false (is_fixed x) None (in_the_way m s n x) is.1) ∙ here; ranked = refl }
 
@@ -97,7 +97,7 @@ settled_by_passes m law older told is =
           let same = ap (λ (x : System). is_fixed x) (move.same (n - 1) (omega (arith, there.0, move.long))) in
           let was : IsUnfixed s n = ((there.0.0, omega (arith, there.0, move.long)), sym same ∙ there.1) in
           ap (λ (t : State). stands_at t.systems n) met.leads
-          ∙ all-has (λ k. stands_at (passed_in_turn m s order).systems k ≡ 0) order n empty (settles_every s (entered_after m law older) n was);
+          ∙ all_has (λ k. stands_at (passed_in_turn m s order).systems k ≡ 0) order n empty (settles_every s (entered_after m law older) n was);
     }
 
 -- Every accepted settle of a list of calls is such a run.

@@ -1,6 +1,6 @@
 -- What holds of every accepted pass and of every accepted settle of a list of calls.
 use Rattle.std.specs.Prelude.{◌≡◌, ℕ, ◌+◌, ◌<◌, true, false, ◌⊎◌, List, [], ◌∷◌, length, is_ok, slice_index, slice_index_or}
-use Rattle.std.specs.List.{ContainsAt as Has, AllByRecursion}
+use Rattle.std.specs.List.{Contains, AllByRecursion}
 use Rattle.passing.specs.Proportion.{WithinThreeEuros, denominator, numerator}
 use Rattle.year_model.specs.Calls.{Call, call_pass, call_settle}
 use Rattle.year_model.specs.Makings.{Makings}
@@ -67,7 +67,7 @@ AcceptedInTurn m (n ∷ ns) older = (is_ok (reply m (state_after m older) (call_
 pub record SettledByPasses (m : Makings) (older : List Call) (told : List ℕ) : Type 0 where
   pub order : List ℕ
   pub only : AllByRecursion (IsUnfixed (state_after m older)) order
-  pub every : (n : ℕ) → IsUnfixed (state_after m older) n → Has order n
+  pub every : (n : ℕ) → IsUnfixed (state_after m older) n → Contains order n
   pub ordered : (i j : ℕ) → i < j → j < length order → ComesBefore (state_after m older) (slice_index order i) (slice_index order j)
   pub accepted : AcceptedInTurn m order older
   pub run : state_after m (call_settle ∷ older) ≡ state_after m (passes_in_turn order older)
