@@ -1,50 +1,46 @@
 -- The net costs are the accepted costs less what was taken back.
-use Rattle.std.proofs.Common.{◌≡◌, ℕ, ◌+◌, List, [], ◌∷◌, refl, ◌∙◌, arith}
-use Rattle.year_model.specs.Calls.{Call, Outcome, call_contract, call_cost, call_couple, call_fix, call_issue, call_open, call_pass, call_settle, call_start, call_take_back, call_tear, call_use, reply_of, state_of}
+use Rattle.std.proofs.Common.{◌≡◌, ℕ, ◌+◌, List, [], ◌∷◌, Ok, Err, refl, arith}
+use Rattle.std.proofs.lemmas.List.Sums.{sum_by-cons}
+use Rattle.year_model.specs.Calls.{Call, Reply, call_contract, call_cost, call_couple, call_fix, call_issue, call_open, call_pass, call_settle, call_start, call_take_back, call_tear, call_use}
+use Rattle.year_model.specs.Journal.{Line, costs_noted, journal, line, noted, take_backs_noted}
 use Rattle.year_model.specs.Laws.{CostsAreAccountedFor}
-use Rattle.year_model.specs.Makings.{Lawful, Makings}
-use Rattle.year_model.specs.Passes.{passed, passed_in_turn, settle_order}
+use Rattle.year_model.specs.Makings.{Makings}
 use Rattle.year_model.specs.Runs.{accepted_costs, accepted_take_backs, cost_euros, if_accepted, take_back_euros}
-use Rattle.year_model.specs.Sound.{Sound}
-use Rattle.year_model.specs.State.{State}
-use Rattle.year_model.specs.Steps.{outcome, state_after}
-use Rattle.year_model.proofs.Acceptance.{accepted_contract, accepted_cost, accepted_couple, accepted_fix, accepted_issue, accepted_open, accepted_pass, accepted_settle, accepted_start, accepted_take_back, accepted_tear, accepted_use}
-use Rattle.year_model.proofs.GridPasses.{standing_small}
-use Rattle.year_model.proofs.Grids.{grid_of}
-use Rattle.year_model.proofs.SoundCalls.{sound_state_after}
+use Rattle.year_model.specs.Steps.{reply, state_after}
+use Rattle.year_model.proofs.NetNoted.{costs_are_noted}
 
--- An outcome of a call moves the net costs by what the call brought in or took out.
-abbrev MovesNet : State → Call → Outcome → Type 0
-MovesNet s c o = s.net + if_accepted (reply_of o) (cost_euros c) ≡ (state_of s o).net + if_accepted (reply_of o) (take_back_euros c)
+-- A line has the euros of its call.
+line_euros : (c : Call) (told : List ℕ) → ((line c told).cost ≡ cost_euros c) × ((line c told).take_back ≡ take_back_euros c)
+line_euros (call_open level category) told = (refl, refl)
+line_euros (call_couple upper lower kw mwh) told = (refl, refl)
+line_euros (call_use n kw mwh permille) told = (refl, refl)
+line_euros (call_cost n euros) told = (refl, refl)
+line_euros (call_take_back n euros) told = (refl, refl)
+line_euros (call_pass n) told = (refl, refl)
+line_euros call_settle told = (refl, refl)
+line_euros (call_fix n v₁ v₂ v₃ v₄) told = (refl, refl)
+line_euros (call_contract n kw fee first last reading) told = (refl, refl)
+line_euros (call_start n kwmax reading) told = (refl, refl)
+line_euros (call_issue book n month) told = (refl, refl)
+line_euros (call_tear book n month) told = (refl, refl)
 
--- Passes leave the net costs.
-net_passed : (m : Makings) (s : State) (n : ℕ) → (state_of s (passed m s n)).net ≡ s.net
-net_passed m s n = accepted_pass m s (λ o. (state_of s o).net ≡ s.net) (λ _. refl) n (λ x ok. refl)
+-- So a reply adds the euros of its call to those that are noted, where it accepts.
+noted_euros : (c : Call) (r : Reply) (lines : List Line)
+    → (costs_noted (noted c r lines) ≡ costs_noted lines + if_accepted r (cost_euros c)) × (take_backs_noted (noted c r lines) ≡ take_backs_noted lines + if_accepted r (take_back_euros c))
+noted_euros c (Ok told) lines =
+    let euros = line_euros c told in (
+      omega (arith, euros.0, sum_by-cons (λ (l : Line). l.cost) (line c told) lines),
+      omega (arith, euros.1, sum_by-cons (λ (l : Line). l.take_back) (line c told) lines),
+    )
+noted_euros c (Err refusal) lines = (omega arith, omega arith)
 
-net_in_turn : (m : Makings) (s : State) (ns : List ℕ) → (passed_in_turn m s ns).net ≡ s.net
-net_in_turn m s [] = refl
-net_in_turn m s (n ∷ ns) = net_in_turn m (state_of s (passed m s n)) ns ∙ net_passed m s n
-
-moves_net : (m : Makings) (s : State) → Sound s → (c : Call) → MovesNet s c (outcome m s c)
-moves_net m s v (call_open level category) = accepted_open m s (MovesNet s (call_open level category)) (λ _. refl) level category (λ ok. refl)
-moves_net m s v (call_couple upper lower kw mwh) = accepted_couple m s (MovesNet s (call_couple upper lower kw mwh)) (λ _. refl) upper lower kw mwh (λ above below ok. refl)
-moves_net m s v (call_use n kw mwh permille) = accepted_use m s (MovesNet s (call_use n kw mwh permille)) (λ _. refl) n kw mwh permille (λ x ok. refl)
-moves_net m s v (call_cost n euros) = accepted_cost m s (MovesNet s (call_cost n euros)) (λ _. refl) n euros (λ x ok. omega arith)
-moves_net m s v (call_take_back n euros) = accepted_take_back m s (MovesNet s (call_take_back n euros)) (λ _. refl) n euros (λ x ok. omega (arith, ok.stands, standing_small s (grid_of s v) n x ok.at.entry))
-moves_net m s v (call_pass n) = accepted_pass m s (MovesNet s (call_pass n)) (λ _. refl) n (λ x ok. refl)
-moves_net m s v call_settle = accepted_settle m s (MovesNet s call_settle) (λ _. refl) (λ _. omega (arith, net_in_turn m s (settle_order s)))
-moves_net m s v (call_fix n v₁ v₂ v₃ v₄) = accepted_fix m s (MovesNet s (call_fix n v₁ v₂ v₃ v₄)) (λ _. refl) n v₁ v₂ v₃ v₄ (λ x f ok. refl)
-moves_net m s v (call_contract n kw fee first last reading) = accepted_contract m s (MovesNet s (call_contract n kw fee first last reading)) (λ _. refl) n kw fee first last reading (λ x f ok. refl)
-moves_net m s v (call_start n kwmax reading) = accepted_start m s (MovesNet s (call_start n kwmax reading)) (λ _. refl) n kwmax reading (λ k ok. refl)
-moves_net m s v (call_issue book n month) = accepted_issue m s (MovesNet s (call_issue book n month)) (λ _. refl) book n month (λ k d ok. refl)
-moves_net m s v (call_tear book n month) = accepted_tear m s (MovesNet s (call_tear book n month)) (λ _. refl) book n month (λ k d ok. refl)
-
-net_told : (m : Makings) → Lawful m → (calls : List Call) → accepted_costs m calls ≡ accepted_take_backs m calls + (state_after m calls).net
-net_told m law [] = refl
-net_told m law (c ∷ calls) =
-    let before = net_told m law calls in
-    let here = moves_net m (state_after m calls) (sound_state_after m law calls) c in
-    omega arith
+-- The accepted costs and take-backs are those that the journal has.
+journal_euros : (m : Makings) (calls : List Call) → (accepted_costs m calls ≡ costs_noted (journal m calls)) × (accepted_take_backs m calls ≡ take_backs_noted (journal m calls))
+journal_euros m [] = (refl, refl)
+journal_euros m (c ∷ calls) =
+    let before = journal_euros m calls in
+    let here = noted_euros c (reply m (state_after m calls) c) (journal m calls) in
+    (omega (arith, before.0, here.0), omega (arith, before.1, here.1))
 
 pub costs_are_accounted_for : CostsAreAccountedFor
-costs_are_accounted_for m law calls = omega (arith, net_told m law calls, (sound_state_after m law calls).money.0)
+costs_are_accounted_for m law calls = let euros = journal_euros m calls in omega (arith, euros.0, euros.1, costs_are_noted m law calls)
