@@ -1,7 +1,6 @@
 -- One turn of settling: an unfixed system that nothing stands in the way of.
 use Rattle.std.proofs.Common.{◌≡◌, ℕ, false, cond, not, ◌&&◌, eqb, List, [], ◌∷◌, length, Some, None, Ok, Err, Option, Result, sym, refl, ap, ◌∙◌, arith}
 use Rattle.std.specs.List.{AllByRecursion as All}
-use Rattle.std.proofs.ByRecursion.{all-has}
 use Rattle.std.proofs.lemmas.Bool.{and_from, cond-false, cond-true, eq-eqb, not_from_false}
 use Rattle.refusal.specs.declared.refusal.Refusal.{Refusal}
 use Rattle.year_model.specs.declared.tables.System.{System}
@@ -10,7 +9,7 @@ use Rattle.year_model.specs.Makings.{Makings}
 use Rattle.year_model.specs.Passes.{first_obstacle, in_the_way, is_unfixed_at, landed_in_turn, landing, numbers, obstacle, or_else, pass_with, passed_in_turn}
 use Rattle.year_model.specs.Sound.{Sound}
 use Rattle.year_model.specs.State.{State, is_fixed, numbered, rank}
-use Rattle.year_model.proofs.InOrder.{has_counting}
+use Rattle.year_model.proofs.InOrder.{all_has, has_counting}
 use Rattle.year_model.proofs.Lookups.{entry_from_numbered}
 use Rattle.tariff_year.specs.Replies.{emptied_by, unless}
 use Rattle.tariff_year.specs.Turns.{turn_of}
@@ -34,7 +33,7 @@ free_at m s free n x is unfixed =
     let at = entry_from_numbered s.systems n x is in
     let low = at.low in
     let high = at.high in
-    let there = all-has (λ k. obstacle m s k (numbered s.systems k) ≡ None) (numbers s) n (no_obstacles m s (numbers s) free) (has_counting 1 (length s.systems) n low (omega arith)) in
+    let there = all_has (λ k. obstacle m s k (numbered s.systems k) ≡ None) (numbers s) n (no_obstacles m s (numbers s) free) (has_counting 1 (length s.systems) n low (omega arith)) in
     sym (cond-false (is_fixed x) None (in_the_way m s n x) unfixed) ∙ ap (λ (o : Option System). obstacle m s n o) (sym is) ∙ there
 
 -- So it is not refused.
