@@ -9,7 +9,7 @@ use crate::line::{letter_of, read_fields, write_line};
 use crate::row::Row;
 use refusal::{Ground, Refusal};
 
-// One to six figures that a call answers.
+// One to six figures that a call answers. An enum, since no row has none or seven, and no list is allocated.
 #[derive(Clone, Copy, Debug, PartialEq, Eq)]
 pub enum Figures {
     One(u64),
