@@ -14,6 +14,7 @@ use Rattle.rows.specs.declared.fault.RowFault.{RowFault}
 use Rattle.rows.specs.declared.fault.RowFault.TheVariants.{Letter, Length, Field}
 use Rattle.rows.specs.declared.request.Request.{Request}
 use Rattle.rows.specs.declared.request.Request.TheVariants.{CalendarYear, Contract, Cost, Couple, Fix, Open, Pass, Settle, Start, TakeBack, Use}
+use Rattle.rows.proofs.Requested.{few_numbers}
 use Rattle.refusal.specs.Refusals.{refuse}
 use Rattle.refusal.specs.declared.refusal.Refusal.{Refusal}
 use Rattle.rows.specs.Told.{AnswerFits}
@@ -59,19 +60,6 @@ ground_fits ReadingFell = omega arith
 ground_fits LineTooHigh = omega arith
 ground_fits DraftNotOut = omega arith
 
-few : (call : Request) → length (numbers call) ≤ 6
-few (CalendarYear year) = omega arith
-few (Open level category) = omega arith
-few (Couple upper lower kw mwh) = omega arith
-few (Use system kw mwh permille) = omega arith
-few (Cost system euros) = omega arith
-few (TakeBack system euros) = omega arith
-few (Pass system) = omega arith
-few (Fix system contracted kwmax kwh reckoned) = omega arith
-few (Contract system kw fee from to reading) = omega arith
-few (Start contract kwmax reading) = omega arith
-few Settle = omega arith
-
 -- a fault has a place of at most six
 abbrev Placed : {X : Type 0} → Result X RowFault → Type 0
 Placed (Ok x) = Unit {0}
@@ -100,7 +88,7 @@ numbers_placed call (Err e) placed = placed
 by_placed : (o : Option Request) (row : List ℕ) → Placed (read_by o row)
 by_placed None row = omega arith
 by_placed (Some call) row =
-    numbers_placed call (numbers_answer (length (numbers call)) row) (answer_placed (length (numbers call)) row (few call))
+    numbers_placed call (numbers_answer (length (numbers call)) row) (answer_placed (length (numbers call)) row (few_numbers call))
 
 read_placed : (row : List ℕ) → Placed (read_answer row)
 unfolding read_answer

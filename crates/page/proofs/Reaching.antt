@@ -1,6 +1,7 @@
 -- Every call leads from a reached state to a reached one.
 use Rattle.std.proofs.Common.{◌≡◌, ℕ, [], ◌∷◌, sym, ap, ◌∙◌, subst}
 use mathlib.Core.Logic.{∥∥₁_map}
+use Rattle.calendar.specs.declared.year.CalendarYear.{CalendarYear}
 use Rattle.edition.specs.Edition2013.{rows_2013}
 use Rattle.edition.specs.Tables.{known_in, percent_in}
 use Rattle.sharing.specs.Running.{running_share}
@@ -22,7 +23,8 @@ reached_by m c s t goes reached =
 abbrev makings_at : ℕ → ℕ → Makings
 makings_at calendar book = makings calendar book 32 running_share (known_in rows_2013) (percent_in rows_2013)
 
-pub reached_later : (calendar later book : ℕ) (c : Call) (s t : State) → book ≡ 0 → later ≡ calendar → t ≡ after (makings_at calendar book) s c → Reached (page_makings calendar) s → Reached (page_makings later) t
-reached_later calendar later book c s t none same goes reached =
-    let there = reached_by (page_makings calendar) c s t (subst (λ b. t ≡ after (makings_at calendar b) s c) none goes) reached in
-    subst (λ y. Reached (page_makings y) t) (sym same) there
+-- A call of the year keeps the book, and leads to a reached state.
+pub call_kept : (calendar later : CalendarYear) (book later_book : ℕ) (c : Call) (s t : State) → later ≡ calendar → later_book ≡ book → t ≡ after (makings_at calendar.year book) s c → (book ≡ 0) × Reached (page_makings calendar.year) s → (later_book ≡ 0) × Reached (page_makings later.year) t
+call_kept calendar later book later_book c s t same kept goes before =
+    let there = reached_by (page_makings calendar.year) c s t (subst (λ b. t ≡ after (makings_at calendar.year b) s c) before.0 goes) before.1 in
+    (kept ∙ before.0, subst (λ (y : CalendarYear). Reached (page_makings y.year) t) (sym same) there)

@@ -4,9 +4,9 @@ use Rattle.refusal.specs.Refusals.{refuse}
 use Rattle.refusal.specs.declared.ground.Ground.TheVariants.{UnknownLetter}
 use Rattle.rows.specs.Faults.{numbered}
 use Rattle.rows.specs.Judged.{request_answer}
-use Rattle.rows.specs.Told.{fault_answer}
+use Rattle.rows.specs.Told.{fault_answer, refused_in}
 use Rattle.rows.specs.declared.answer.AnswerRow.{AnswerRow}
-use Rattle.rows.specs.declared.answer.AnswerRow.TheVariants.{Told, Refused}
+use Rattle.rows.specs.declared.answer.AnswerRow.TheVariants.{Told}
 use Rattle.rows.specs.declared.answer.Figures.TheVariants.{One}
 use Rattle.rows.specs.declared.fault.Numbered.{Numbered}
 use Rattle.rows.specs.declared.fault.PageFault.TheVariants.{InRow}
@@ -18,6 +18,7 @@ use Rattle.year_model.specs.Calls.{Call, Reply, call_cost, call_couple, call_ope
 use Rattle.year_model.specs.Makings.{Makings}
 use Rattle.year_model.specs.State.{State}
 use Rattle.year_model.specs.Steps.{after, reply}
+use Rattle.page.specs.Reached.{YearAt, page_makings}
 
 -- The letters P, Z, F, N and B are unknown as long as a page does not make their calls.
 abbrev pub is_not_yet : ℕ → Bool
@@ -54,7 +55,7 @@ state_after_call m s (Some c) = after m s c
 -- A reply as the answer row of the row with this number: the told number, or the ground, the row and the place.
 abbrev pub reply_row : ℕ → Reply → AnswerRow
 reply_row number (Ok told) = Told (One (slice_index told 0))
-reply_row number (Err refusal) = Refused refusal.ground number refusal.place
+reply_row number (Err refusal) = refused_in number refusal
 
 -- The answer row of what a row asks, or of what is wrong with it.
 abbrev pub asked_answered : Makings → State → ℕ → Result Request (Numbered RowFault) → AnswerRow
@@ -73,3 +74,11 @@ row_answered m s number row = asked_answered m s number (asked_in number row)
 -- The state of the year behind that row.
 unfoldable pub state_behind : Makings → State → ℕ → List ℕ → State
 state_behind m s number row = state_behind_asked m s (asked_in number row)
+
+-- The answer row of a row with this number and these bytes, in a page's year.
+abbrev pub year_answers : YearAt → ℕ → List ℕ → AnswerRow
+year_answers year number row = row_answered (page_makings year.calendar) year.state number row
+
+-- The year behind that row.
+abbrev pub year_behind : YearAt → ℕ → List ℕ → YearAt
+year_behind year number row = record { calendar = year.calendar; state = state_behind (page_makings year.calendar) year.state number row }

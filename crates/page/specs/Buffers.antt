@@ -6,7 +6,7 @@ use Rattle.refusal.specs.declared.refusal.Refusal.{Refusal}
 use Rattle.rows.specs.Lines.{left_by, write_answer}
 use Rattle.rows.specs.Told.{answer_bytes, answer_numbers}
 use Rattle.rows.specs.declared.answer.AnswerRow.{AnswerRow}
-use Rattle.page.specs.Runs.{Standing, answer_at, over, row_behind, rows_left, standing_behind}
+use Rattle.page.specs.Runs.{Run, next_answer, over, row_behind, rows_left, standing_behind}
 use Rattle.page.specs.declared.error.PageError.{PageError}
 use Rattle.page.specs.declared.error.PageError.TheVariants.{Refused, NoMemory}
 
@@ -31,17 +31,17 @@ as_page (Err refusal) = Err (Refused refusal)
 
 -- The next answer row of a run stands at the front of the buffer, and its length is told; a buffer under 62 bytes is
 -- refused, and then all is as it was.
-pub record Answered (before later : Standing) (row newest : ℕ) (rows left : List (List ℕ)) (old new : List ℕ) (told : Result ℕ PageError) : Type 0 where
-  pub answer : told ≡ with_room (length old) (Err (Refused (refuse BufferTooSmall 0))) (as_page (length_told (length old) (answer_at before (row + 1) rows)))
-  pub buffer : new ≡ with_room (length old) old (buffer_behind (answer_at before (row + 1) rows) (length_told (length old) (answer_at before (row + 1) rows)) old)
-  pub stands : later ≡ with_room (length old) before (standing_behind before (row + 1) rows)
-  pub rest : left ≡ with_room (length old) rows (rows_left before rows)
-  pub counted : newest ≡ with_room (length old) row (row_behind before row rows)
+pub record Answered (before later : Run) (old new : List ℕ) (told : Result ℕ PageError) : Type 0 where
+  pub answer : told ≡ with_room (length old) (Err (Refused (refuse BufferTooSmall 0))) (as_page (length_told (length old) (next_answer before)))
+  pub buffer : new ≡ with_room (length old) old (buffer_behind (next_answer before) (length_told (length old) (next_answer before)) old)
+  pub stands : later.stands ≡ with_room (length old) before.stands (standing_behind before.stands (before.reading.row + 1) before.reading.left)
+  pub rest : later.reading.left ≡ with_room (length old) before.reading.left (rows_left before.stands before.reading.left)
+  pub counted : later.reading.row ≡ with_room (length old) before.reading.row (row_behind before.stands before.reading.row before.reading.left)
 
 -- There was no memory for the year: nothing is written, and the run is over.
-pub record OutOfMemory (later : Standing) (old new : List ℕ) : Type 0 where
+pub record OutOfMemory (later : Run) (old new : List ℕ) : Type 0 where
   pub buffer : new ≡ old
-  pub stands : later ≡ over
+  pub stands : later.stands ≡ over
 
 -- What holds where the memory was there, and what where it was not.
 abbrev pub ByMemory : Result ℕ PageError → Type 0 → Type 0 → Type 0

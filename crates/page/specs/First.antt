@@ -6,8 +6,9 @@ use Rattle.refusal.specs.declared.refusal.Refusal.{Refusal}
 use Rattle.calendar.specs.Days.{days_of_year, is_calendar_year}
 use Rattle.rows.specs.Faults.{page_ground, page_place}
 use Rattle.rows.specs.Judged.{next_answer}
+use Rattle.rows.specs.Told.{refused_in}
 use Rattle.rows.specs.declared.answer.AnswerRow.{AnswerRow}
-use Rattle.rows.specs.declared.answer.AnswerRow.TheVariants.{Told, Refused}
+use Rattle.rows.specs.declared.answer.AnswerRow.TheVariants.{Told}
 use Rattle.rows.specs.declared.answer.Figures.TheVariants.{One}
 use Rattle.rows.specs.declared.fault.PageFault.{PageFault}
 use Rattle.rows.specs.declared.request.Request.{Request}
@@ -40,4 +41,4 @@ first_asked number rows = year_of_first (next_answer number rows)
 -- The answer row of the first row: the days of the year, or a refusal in row 1.
 abbrev pub year_row : Result ℕ Refusal → AnswerRow
 year_row (Ok year) = Told (One (days_of_year year))
-year_row (Err refusal) = Refused refusal.ground 1 refusal.place
+year_row (Err refusal) = refused_in 1 refusal

@@ -2,10 +2,11 @@
 use Rattle.std.specs.Prelude.{◌≡◌, ℕ, ◌+◌, cond, List, [], ◌∷◌, length, Some, None, Ok, Err, Option, Result, nat_lt}
 use Rattle.refusal.specs.declared.refusal.Refusal.{Refusal}
 use Rattle.rows.specs.Judged.{number_behind, rows_behind}
+use Rattle.rows.specs.Pages.{Reading, unread}
 use Rattle.rows.specs.Told.{fault_answer}
 use Rattle.rows.specs.declared.answer.AnswerRow.{AnswerRow}
 use Rattle.rows.specs.declared.fault.PageFault.TheVariants.{TooLong}
-use Rattle.year_model.specs.State.{State, begun, view}
+use Rattle.year_model.specs.State.{State, begun}
 use Rattle.page.specs.Answers.{row_answered, state_behind}
 use Rattle.page.specs.First.{first_asked, year_row}
 use Rattle.page.specs.Reached.{page_makings}
@@ -24,7 +25,7 @@ pub data Standing : Type 0 where
 abbrev pub standing : Stage → Standing
 standing Refused = too_long
 standing Unbegun = unbegun
-standing (Running year) = running year.year.calendar.year (view year.year.tables)
+standing (Running year) = running year.calendar year.state
 standing Over = over
 
 -- A page whose calendar year is refused is over; otherwise its year has nothing in it.
@@ -74,12 +75,28 @@ row_behind over row rows = row
 abbrev pub standing_new : ℕ → Standing
 standing_new size = cond (nat_lt 60000 size) too_long unbegun
 
--- A run came from one standing to another with this answer; so many rows were read, and these are left.
-pub record Went (before later : Standing) (row newest : ℕ) (rows left : List (List ℕ)) (answer : Option AnswerRow) : Type 0 where
-  pub answered : answer ≡ answer_at before (row + 1) rows
-  pub stands : later ≡ standing_behind before (row + 1) rows
-  pub rest : left ≡ rows_left before rows
-  pub counted : newest ≡ row_behind before row rows
+-- The run of a page: where it stands, and how far its rows are read.
+pub record Run : Type 0 where
+  pub stands : Standing
+  pub reading : Reading
+
+abbrev pub run_at : Standing → Reading → Run
+run_at stands reading = record { stands = stands; reading = reading }
+
+-- the next answer row of a run, if it has one
+abbrev pub next_answer : Run → Option AnswerRow
+next_answer run = answer_at run.stands (run.reading.row + 1) run.reading.left
+
+-- the run of a page of these bytes before its first answer
+abbrev pub run_new : List ℕ → Run
+run_new page = run_at (standing_new (length page)) (unread page)
+
+-- A run came from one to the other with this answer; so many rows were read, and these are left.
+pub record Went (before later : Run) (answer : Option AnswerRow) : Type 0 where
+  pub answered : answer ≡ next_answer before
+  pub stands : later.stands ≡ standing_behind before.stands (before.reading.row + 1) before.reading.left
+  pub rest : later.reading.left ≡ rows_left before.stands before.reading.left
+  pub counted : later.reading.row ≡ row_behind before.stands before.reading.row before.reading.left
 
 -- The most answers that a run has yet to give.
 abbrev pub answers_left : Standing → List (List ℕ) → ℕ
@@ -87,3 +104,7 @@ answers_left too_long rows = 1
 answers_left unbegun rows = 1 + length rows
 answers_left (running calendar s) rows = length rows
 answers_left over rows = 0
+
+-- the same of a run
+abbrev pub most_answers : Run → ℕ
+most_answers run = answers_left run.stands run.reading.left

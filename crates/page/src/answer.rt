@@ -1,8 +1,7 @@
 // What a row asks, the call that it makes of the year, and its answer row.
 ghost use Rattle.std.specs.Prelude.{◌≡◌};
-ghost use Rattle.year_model.specs.State.{view};
 ghost use Rattle.tariff_year.specs.Years.{told_number};
-ghost use Rattle.page.specs.Answers.{asked_in, call_of, replied, reply_row, row_answered, state_after_call, state_behind};
+ghost use Rattle.page.specs.Answers.{asked_in, call_of, replied, reply_row, state_after_call, year_answers, year_behind};
 ghost use Rattle.page.specs.Reached.{page_makings};
 
 use crate::not_yet::is_not_yet;
@@ -29,20 +28,16 @@ fn row_of(number: u64, reply: Result<u64, Refusal>) -> AnswerRow
 {
     match reply {
         Ok(told) => AnswerRow::Told(Figures::One(told)),
-        Err(refusal) => AnswerRow::Refused {
-            ground: refusal.ground,
-            row: number,
-            place: refusal.place,
-        },
+        Err(refusal) => AnswerRow::refused(number, refusal),
     }
 }
 
 impl PageYear {
     // Makes the call that a request asks for, if there is one.
     fn call(&mut self, request: Request) -> Result<u64, Refusal>
-        ensures told { told_number result ≡ replied (page_makings self.old.year.calendar.year) (view self.old.year.tables) (call_of request) }
-        ensures state { view self.new.year.tables ≡ state_after_call (page_makings self.old.year.calendar.year) (view self.old.year.tables) (call_of request) }
-        ensures kept { self.new.year.calendar ≡ self.old.year.calendar }
+        ensures told { told_number result ≡ replied (page_makings self.old.calendar) self.old.state (call_of request) }
+        ensures state { self.new.state ≡ state_after_call (page_makings self.old.calendar) self.old.state (call_of request) }
+        ensures kept { self.new.calendar ≡ self.old.calendar }
     {
         match request {
             Request::Open { level, category } => self.open(level, category),
@@ -70,10 +65,10 @@ impl PageYear {
     }
 
     // Carries out what a row asks, and answers its answer row; a refused row changes nothing.
+    #[tactic(auto, unfolding(crate::specs::Answers::row_answered, crate::specs::Answers::state_behind))]
     pub fn answer(&mut self, row: NumberedRow<'_>) -> AnswerRow
-        ensures answer { result ≡ row_answered (page_makings self.old.year.calendar.year) (view self.old.year.tables) row.entry.number row.entry.bytes.now }
-        ensures state { view self.new.year.tables ≡ state_behind (page_makings self.old.year.calendar.year) (view self.old.year.tables) row.entry.number row.entry.bytes.now }
-        ensures kept { self.new.year.calendar ≡ self.old.year.calendar }
+        ensures answer { result ≡ year_answers self.old row.entry.number row.entry.bytes.now }
+        ensures behind { self.new ≡ year_behind self.old row.entry.number row.entry.bytes.now }
     {
         match request_in(row) {
             Ok(request) => row_of(row.number, self.call(request)),

@@ -6,16 +6,5 @@ ghost use Rattle.page.specs.Answers.{is_not_yet};
 pub fn is_not_yet(row: &[u8]) -> bool
     ensures { result ≡ is_not_yet (slice_index row.now 0) }
 {
-    let letter = letter_of(row);
-    letter == b'P' || letter == b'Z' || letter == b'F' || letter == b'N' || letter == b'B'
-}
-
-// The letter of a row, or 0 where it has no byte.
-fn letter_of(row: &[u8]) -> u8
-    ensures { result ≡ slice_index row.now 0 }
-{
-    match row {
-        [letter, ..] => *letter,
-        [] => 0,
-    }
+    matches!(row, [b'P' | b'Z' | b'F' | b'N' | b'B', ..])
 }

@@ -1,29 +1,39 @@
 // The tariff year that a page runs against.
-ghost use Rattle.std.specs.Prelude.{◌≡◌, IfOk};
+ghost use Rattle.std.specs.Prelude.{IfOk, ◌≡◌};
 ghost use Rattle.year_model.specs.Calls.{call_cost, call_couple, call_open, call_take_back, call_use};
-ghost use Rattle.year_model.specs.State.{begun, view};
-ghost use Rattle.tariff_year.specs.Years.{Did, told_number};
-ghost use Rattle.page.specs.Reached.{Reached, page_makings};
+ghost use Rattle.tariff_year.specs.Years.{told_number};
+ghost use Rattle.page.specs.Reached.{Called, Reached, page_makings, year_new};
 
 use calendar::CalendarYear;
 use edition::Edition2013;
 use refusal::Refusal;
 use sharing::Running;
 use std::alloc::{AllocError, Global};
+use std::marker::Model;
 use tariff_year::TariffYear;
 
 // A year under the edition of 2013 and the running rule, with book 0, whose state a list of calls led to.
 #[derive(Drop)]
 pub struct PageYear {
     year: TariffYear<Edition2013, Running>,
-    ghost book: { year.book ≡ 0 },
-    ghost reached: { Reached (page_makings year.calendar.year) (view year.tables) },
+}
+
+impl Model for PageYear {
+    ghost use Rattle.std.specs.Prelude.{◌≡◌};
+    ghost use Rattle.year_model.specs.State.{view as state_in};
+    ghost use Rattle.page.specs.Reached.{Reached, YearAt, page_makings};
+
+    ghost Value = { YearAt };
+
+    ghost view = { λ it. record { calendar = it.year.calendar.year; state = state_in it.year.tables } };
+
+    ghost invariant = { λ it. (it.year.book ≡ 0) × Reached (page_makings it.year.calendar.year) (state_in it.year.tables) };
 }
 
 impl PageYear {
     // A year with nothing in it; only want of memory refuses it.
     pub fn new(heap: Global, calendar: CalendarYear) -> Result<PageYear, AllocError>
-        ensures { IfOk result (λ y. (view y.year.tables ≡ begun) × (y.year.calendar ≡ calendar)) }
+        ensures { IfOk result (λ year. year ≡ year_new calendar.year) }
     {
         let year = TariffYear::new(heap, calendar, Edition2013, Running, 0)?;
         Ok(PageYear { year })
@@ -31,21 +41,21 @@ impl PageYear {
 
     // A list of calls led to the year's state, under the edition of 2013, the running rule and book 0.
     pub fn is_reached_by_calls(&self)
-        ensures { Reached (page_makings self.now.year.calendar.year) (view self.now.year.tables) }
-    {}
+        ensures { Reached (page_makings self.now.calendar) self.now.state }
+    {
+        let _ = &self.year;
+    }
 
     // One system more at this level and of this category; answers its number.
     pub fn open(&mut self, level: u64, category: u64) -> Result<u64, Refusal>
-        ensures did { Did (page_makings self.old.year.calendar.year) (view self.old.year.tables) (call_open level category) (told_number result) (view self.new.year.tables) }
-        ensures kept { self.new.year.calendar ≡ self.old.year.calendar }
+        ensures { Called self.old (call_open level category) (told_number result) self.new }
     {
         self.year.open(level, category)
     }
 
     // Joins an upper system to a lower one, with the kW and MWh exchanged; answers the coupling's number.
     pub fn couple(&mut self, upper: u64, lower: u64, kw: u64, mwh: u64) -> Result<u64, Refusal>
-        ensures did { Did (page_makings self.old.year.calendar.year) (view self.old.year.tables) (call_couple upper lower kw mwh) (told_number result) (view self.new.year.tables) }
-        ensures kept { self.new.year.calendar ≡ self.old.year.calendar }
+        ensures { Called self.old (call_couple upper lower kw mwh) (told_number result) self.new }
     {
         self.year.couple(upper, lower, kw, mwh)
     }
@@ -58,24 +68,21 @@ impl PageYear {
         mwh: u64,
         permille: u64,
     ) -> Result<u64, Refusal>
-        ensures did { Did (page_makings self.old.year.calendar.year) (view self.old.year.tables) (call_use system kw mwh permille) (told_number result) (view self.new.year.tables) }
-        ensures kept { self.new.year.calendar ≡ self.old.year.calendar }
+        ensures { Called self.old (call_use system kw mwh permille) (told_number result) self.new }
     {
         self.year.use_system(system, kw, mwh, permille)
     }
 
     // Adds euros to those standing at a system; answers the euros now standing.
     pub fn cost(&mut self, system: u64, euros: u64) -> Result<u64, Refusal>
-        ensures did { Did (page_makings self.old.year.calendar.year) (view self.old.year.tables) (call_cost system euros) (told_number result) (view self.new.year.tables) }
-        ensures kept { self.new.year.calendar ≡ self.old.year.calendar }
+        ensures { Called self.old (call_cost system euros) (told_number result) self.new }
     {
         self.year.cost(system, euros)
     }
 
     // Removes euros that stand at a system; answers the euros still standing.
     pub fn take_back(&mut self, system: u64, euros: u64) -> Result<u64, Refusal>
-        ensures did { Did (page_makings self.old.year.calendar.year) (view self.old.year.tables) (call_take_back system euros) (told_number result) (view self.new.year.tables) }
-        ensures kept { self.new.year.calendar ≡ self.old.year.calendar }
+        ensures { Called self.old (call_take_back system euros) (told_number result) self.new }
     {
         self.year.take_back(system, euros)
     }

@@ -1,12 +1,12 @@
 -- The row of an answer, and the answer in a row.
-use Rattle.std.proofs.Common.{◌≡◌, ℕ, ◌/◌, ◌≤◌, cond, eqb, List, [], ◌∷◌, length, get_or, IfSome, Some, None, Ok, Err, Option, Result, sym, refl, ap, ◌∙◌, subst, arith}
+use Rattle.std.proofs.Common.{◌≡◌, ℕ, ◌/◌, cond, eqb, List, [], ◌∷◌, length, get_or, IfSome, Some, None, Ok, Err, Option, Result, sym, refl, ap, ◌∙◌, subst, arith}
 use Rattle.refusal.proofs.Numbering.{numbers_name_grounds}
 use Rattle.refusal.specs.Grounds.{ground_number, ground_numbered, first_numbered, all_grounds}
 use Rattle.refusal.specs.declared.ground.Ground.{Ground}
 use Rattle.std.proofs.lemmas.Bool.{cond_both}
 use Rattle.std.proofs.lemmas.Bool.Decides.{Decides-eqb}
 use Rattle.rows.specs.Lines.{line, Fit, numbers_answer, ReadsExactly}
-use Rattle.rows.specs.Told.{figures_listed, answer_numbers, answer_bytes, AnswerFits, figures_long, figures_of, with_figures, figures_by, figures_answer, telling, refusing, refusing_with, answer_read}
+use Rattle.rows.specs.Told.{figures_listed, answer_bytes, AnswerFits, figures_long, figures_of, with_figures, figures_by, figures_answer, telling, refusing, refusing_with, answer_read}
 use Rattle.rows.specs.declared.answer.AnswerRow.{AnswerRow}
 use Rattle.rows.specs.declared.answer.AnswerRow.TheVariants.{Told, Refused}
 use Rattle.rows.specs.declared.answer.Figures.{Figures}
@@ -30,16 +30,15 @@ record SameFigures (f : Figures) : Type 0 where
   pub same_count : length (figures_listed (figures_of f [])) ≡ length (figures_listed f)
   pub again : figures_of (figures_of f []) (figures_listed f) ≡ f
   pub long : figures_long (length (figures_listed f)) ≡ Some (figures_of f [])
-  pub few : length (figures_listed f) ≤ 6
 
 same_figures : (f : Figures) → SameFigures f
 unfolding figures_long
-same_figures (One a) = record { same_count = refl; again = refl; long = refl; few = omega arith }
-same_figures (Two a b) = record { same_count = refl; again = refl; long = refl; few = omega arith }
-same_figures (Three a b c) = record { same_count = refl; again = refl; long = refl; few = omega arith }
-same_figures (Four a b c d) = record { same_count = refl; again = refl; long = refl; few = omega arith }
-same_figures (Five a b c d e) = record { same_count = refl; again = refl; long = refl; few = omega arith }
-same_figures (Six a b c d e f) = record { same_count = refl; again = refl; long = refl; few = omega arith }
+same_figures (One a) = record { same_count = refl; again = refl; long = refl }
+same_figures (Two a b) = record { same_count = refl; again = refl; long = refl }
+same_figures (Three a b c) = record { same_count = refl; again = refl; long = refl }
+same_figures (Four a b c d) = record { same_count = refl; again = refl; long = refl }
+same_figures (Five a b c d e) = record { same_count = refl; again = refl; long = refl }
+same_figures (Six a b c d e f) = record { same_count = refl; again = refl; long = refl }
 
 -- what the letter of a row says
 pub read_a : (row : List ℕ) (r : Result AnswerRow RowFault) → get_or row 0 0 ≡ 65 → r ≡ telling (figures_answer row) → r ≡ answer_read row
@@ -131,10 +130,6 @@ answers_exactly row r e = record {
   only_its_row = λ a so. row_of_answer row a (sym e ∙ so);
   its_row = λ a fit so. e ∙ ap answer_read so ∙ answer_written a fit;
 }
-
-pub length_answer_le : (a : AnswerRow) → length (answer_bytes a) ≤ 62
-length_answer_le (Told f) = omega (arith, length_line 65 (figures_listed f), (same_figures f).few)
-length_answer_le (Refused g of place) = omega (arith, length_line 82 (answer_numbers (Refused g of place)))
 
 pub same_from_answer_row : (a b : AnswerRow) → AnswerFits a → AnswerFits b → answer_bytes a ≡ answer_bytes b → a ≡ b
 same_from_answer_row a b f g e = let so : Ok a ≡ Ok b = sym (answer_written a f) ∙ ap answer_read e ∙ answer_written b g in cc

@@ -62,6 +62,9 @@ same_call (Start a b c) = record { same_letter = λ ns. refl; same_count = refl;
 pub count_kept : (call : Request) → length (numbers (filled call [])) ≡ length (numbers call)
 count_kept call = (same_call call).same_count
 
+pub few_numbers : (call : Request) → length (numbers call) ≤ 6
+few_numbers call = (same_call call).few
+
 -- What is written reads back.
 pub read_written : (q : Request) → Fits q → read_answer (row_bytes q) ≡ Ok q
 unfolding read_answer

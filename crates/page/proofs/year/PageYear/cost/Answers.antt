@@ -1,13 +1,6 @@
-use Rattle.std.proofs.Common.{ap, ◌∙◌}
-use Rattle.calendar.specs.declared.year.CalendarYear.{CalendarYear}
 use Rattle.year_model.specs.Calls.{call_cost}
-use Rattle.year_model.specs.State.{view}
-use Rattle.page.proofs.Reaching.{reached_later}
+use Rattle.page.proofs.Reaching.{call_kept}
 use Rattle.page.proofs.year.PageYear.cost.Goals as goal
 
 pub invariant_of-self : goal.invariant_of-self
-invariant_of-self c =
-    let old = c.args.self.now in
-    let new = c.cost.new.self in
-    let same = ap (λ (y : CalendarYear). y.year) c.cost.ensures.kept.0 in
-    record { book = c.cost.ensures.kept.3 ∙ old.book; reached = reached_later old.year.calendar.year new.calendar.year old.year.book (call_cost c.args.system c.args.euros) (view old.year.tables) (view new.tables) old.book same c.cost.ensures.did.state old.reached }
+invariant_of-self c = call_kept _ _ _ _ (call_cost c.args.system c.args.euros) _ _ c.cost.ensures.kept.0 c.cost.ensures.kept.3 c.cost.ensures.did.state c.self.invariant
