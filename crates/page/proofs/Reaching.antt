@@ -1,7 +1,6 @@
 -- Every call leads from a reached state to a reached one.
 use Rattle.std.proofs.Common.{◌≡◌, ℕ, [], ◌∷◌, sym, ap, ◌∙◌, subst}
 use mathlib.Core.Logic.{∥∥₁_map}
-use Rattle.calendar.specs.declared.year.CalendarYear.{CalendarYear}
 use Rattle.edition.specs.Edition2013.{rows_2013}
 use Rattle.edition.specs.Tables.{known_in, percent_in}
 use Rattle.sharing.specs.Running.{running_share}
@@ -9,7 +8,7 @@ use Rattle.year_model.specs.Calls.{Call}
 use Rattle.year_model.specs.Makings.{Makings}
 use Rattle.year_model.specs.State.{State, begun}
 use Rattle.year_model.specs.Steps.{after}
-use Rattle.tariff_year.specs.Years.{makings}
+use Rattle.tariff_year.specs.declared.basis.Basis.{Basis}
 use Rattle.page.specs.Reached.{Reached, page_makings}
 
 pub reached_new : (m : Makings) (s : State) → s ≡ begun → Reached m s
@@ -21,10 +20,19 @@ reached_by m c s t goes reached =
 
 -- the makings of a page's year, at any book
 abbrev makings_at : ℕ → ℕ → Makings
-makings_at calendar book = makings calendar book 32 running_share (known_in rows_2013) (percent_in rows_2013)
+makings_at calendar book =
+    record {
+      calendar = calendar;
+      book = book;
+      longest = 32;
+      share = running_share;
+      known = known_in rows_2013;
+      percent = percent_in rows_2013;
+    }
 
--- A call of the year keeps the book, and leads to a reached state.
-pub call_kept : (calendar later : CalendarYear) (book later_book : ℕ) (c : Call) (s t : State) → later ≡ calendar → later_book ≡ book → t ≡ after (makings_at calendar.year book) s c → (book ≡ 0) × Reached (page_makings calendar.year) s → (later_book ≡ 0) × Reached (page_makings later.year) t
-call_kept calendar later book later_book c s t same kept goes before =
-    let there = reached_by (page_makings calendar.year) c s t (subst (λ b. t ≡ after (makings_at calendar.year b) s c) before.0 goes) before.1 in
-    (kept ∙ before.0, subst (λ (y : CalendarYear). Reached (page_makings y.year) t) (sym same) there)
+-- A call of the year keeps what it is made of, and leads to a reached state.
+pub call_kept : {E R : Type 0} (basis later : Basis E R) (c : Call) (s t : State) → later ≡ basis → t ≡ after (makings_at basis.calendar.year basis.book) s c → (basis.book ≡ 0) × Reached (page_makings basis.calendar.year) s
+    → (later.book ≡ 0) × Reached (page_makings later.calendar.year) t
+call_kept {E} {R} basis later c s t same goes before =
+    let there = reached_by (page_makings basis.calendar.year) c s t (subst (λ b. t ≡ after (makings_at basis.calendar.year b) s c) before.0 goes) before.1 in
+    subst (λ (b : Basis E R). (b.book ≡ 0) × Reached (page_makings b.calendar.year) t) (sym same) (before.0, there)

@@ -7,11 +7,19 @@ use Rattle.year_model.specs.Calls.{Call, Reply}
 use Rattle.year_model.specs.Makings.{Makings}
 use Rattle.year_model.specs.State.{State, begun}
 use Rattle.year_model.specs.Steps.{state_after}
-use Rattle.tariff_year.specs.Years.{Did, makings}
+use Rattle.tariff_year.specs.Years.{Did}
 
 -- A page's year is made of its calendar year, book 0, the running rule and the edition of 2013.
 abbrev pub page_makings : ℕ → Makings
-page_makings calendar = makings calendar 0 32 running_share (known_in rows_2013) (percent_in rows_2013)
+page_makings calendar =
+    record {
+      calendar = calendar;
+      book = 0;
+      longest = 32;
+      share = running_share;
+      known = known_in rows_2013;
+      percent = percent_in rows_2013;
+    }
 
 -- There is a list of calls that leads to this state.
 abbrev pub Reached : Makings → State → Type 0

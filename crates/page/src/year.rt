@@ -25,9 +25,9 @@ impl Model for PageYear {
 
     ghost Value = { YearAt };
 
-    ghost view = { λ it. record { calendar = it.year.calendar.year; state = state_in it.year.tables } };
+    ghost view = { λ it. record { calendar = it.year.basis.calendar.year; state = state_in it.year.tables } };
 
-    ghost invariant = { λ it. (it.year.book ≡ 0) × Reached (page_makings it.year.calendar.year) (state_in it.year.tables) };
+    ghost invariant = { λ it. (it.year.basis.book ≡ 0) × Reached (page_makings it.year.basis.calendar.year) (state_in it.year.tables) };
 }
 
 impl PageYear {

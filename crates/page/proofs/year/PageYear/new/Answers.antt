@@ -7,4 +7,4 @@ pub invariant_of-result : goal.invariant_of-result
 invariant_of-result c =
     let year = c.in_ok-year.year in
     let is = c.in_ok-year.ensures in
-    (is.1.3, reached_new (page_makings year.calendar.year) (view year.tables) is.0)
+    (is.1.3, reached_new (page_makings year.basis.calendar.year) (view year.tables) is.0)
