@@ -1,7 +1,7 @@
 // The exact proportion of a taker, as a fraction.
 use std::fmt;
 
-// A number with a sign, in lowest terms.
+// A number with a sign, in lowest terms. The sign stands apart, since the numerator may take all of its 128 bits.
 #[derive(Clone, Copy)]
 pub struct Fraction {
     negative: bool,

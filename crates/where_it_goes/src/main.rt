@@ -9,26 +9,17 @@ mod show;
 
 use crate::question::read_question;
 use crate::show::show_question;
-use number_lines::{Outcome, Tally};
+use number_lines::{Outcome, answer_lines};
 use std::io;
-use std::io::{BufRead, BufReader};
+use std::io::BufReader;
+
+const HINT: &str =
+    "Type an amount, a permille, and kW and MWh of each taker, as in: 1001 500 400 1000 600 3000.";
 
 fn main(rt: HostRuntime) -> io::Result<()> {
-    let mut input = BufReader::new(rt.alloc(), rt.stdin())?;
-    let mut tally = Tally::EMPTY;
-    for number in 1..u64::MAX {
-        let mut line = Vec::new(rt.alloc());
-        if input.read_until(b'\n', &mut line)? == 0 {
-            break;
-        }
-        tally = tally.with(answer(&rt, number, &line)?);
-    }
-    if tally.is_empty() {
-        return println!(rt;
-            "Type an amount, a permille, and kW and MWh of each taker, as in: 1001 500 400 1000 600 3000."
-        );
-    }
-    println!(rt; "{tally}")
+    let input = BufReader::new(rt.alloc(), rt.stdin())?;
+    answer_lines(&rt, input, HINT, |number, line| answer(&rt, number, line))?;
+    Ok(())
 }
 
 fn answer(rt: &HostRuntime, number: u64, line: &[u8]) -> io::Result<Outcome> {

@@ -3,28 +3,23 @@ ghost use Rattle.std.specs.Prelude.{◌≡◌, ◌-◌, ◌*◌, ◌≤◌, IfSo
 ghost use Rattle.passing.specs.Proportion.{all_of, denominator, numerator};
 
 use crate::fraction::Fraction;
+use crate::question::Question;
 
 // The amount times permille and kW over all kW, plus the amount times the rest and MWh over all MWh, divided by 1,000.
 // None where the figures do not fit.
-pub fn exact_proportion(
-    amount: u64,
-    permille: u64,
-    kws: &[u64],
-    mwhs: &[u64],
-    taker: usize,
-) -> Option<(u128, u128)>
-    ensures { IfSome result (λ f. (f.0 ≡ numerator amount permille kws.now mwhs.now taker) × (f.1 ≡ denominator permille kws.now mwhs.now)) }
+pub fn exact_proportion(question: &Question, taker: usize) -> Option<(u128, u128)>
+    ensures { IfSome result (λ f. (f.0 ≡ numerator question.now.amount question.now.permille question.now.kws.items question.now.mwhs.items taker) × (f.1 ≡ denominator question.now.permille question.now.kws.items question.now.mwhs.items)) }
 {
-    if permille > 1_000 || taker >= kws.len() || taker >= mwhs.len() {
-        return None;
-    }
-    let rest = 1_000 - permille;
-    let all_kw = all_of(permille, kws)?;
-    let all_mwh = all_of(rest, mwhs)?;
-    let by_kw = product(permille, kws[taker], all_mwh)?;
-    let by_mwh = product(rest, mwhs[taker], all_kw)?;
+    let permille = question.permille;
+    let rest = 1_000u64.checked_sub(permille)?;
+    let kw = *question.kws.get(taker)?;
+    let mwh = *question.mwhs.get(taker)?;
+    let all_kw = all_of(permille, &question.kws)?;
+    let all_mwh = all_of(rest, &question.mwhs)?;
+    let by_kw = product(permille, kw, all_mwh)?;
+    let by_mwh = product(rest, mwh, all_kw)?;
     let weighed = by_kw.checked_add(by_mwh)?;
-    let above = u128::from(amount).checked_mul(weighed)?;
+    let above = u128::from(question.amount).checked_mul(weighed)?;
     let below = u128::from(1_000u64).checked_mul(all_kw.checked_mul(all_mwh)?)?;
     Some((above, below))
 }
@@ -36,11 +31,9 @@ fn all_of(factor: u64, weights: &[u64]) -> Option<u128>
     if factor == 0 {
         return Some(1);
     }
-    let mut all = 0u128;
-    for weight in weights {
-        all = all.checked_add(u128::from(*weight))?;
-    }
-    Some(all)
+    weights
+        .iter()
+        .try_fold(0u128, |all, weight| all.checked_add(u128::from(*weight)))
 }
 
 // A factor times a weight times what all weigh.
@@ -53,9 +46,5 @@ fn product(factor: u64, weight: u64, all: u128) -> Option<u128>
 // What was received less the proportion.
 pub fn difference(received: u64, above: u128, below: u128) -> Option<Fraction> {
     let got = u128::from(received).checked_mul(below)?;
-    if got < above {
-        Fraction::new(true, above - got, below)
-    } else {
-        Fraction::new(false, got - above, below)
-    }
+    Fraction::new(got < above, got.abs_diff(above), below)
 }

@@ -1,11 +1,12 @@
 // A pass to work out, as a line has it.
 use number_lines::{LineFault, read_numbers};
-use std::alloc::{AllocError, AllocFailed, Global};
-use std::fmt;
+use std::alloc::{AllocError, Global};
+use thiserror::Error;
 
 // An amount, a permille and up to 64 takers.
 const MOST_NUMBERS: usize = 130;
 
+// The kW and the MWh stand in lists of their own, since a pass shares each part by one list of weights.
 #[derive(Drop)]
 pub struct Question {
     pub amount: u64,
@@ -15,39 +16,14 @@ pub struct Question {
 }
 
 // Why a line is no question.
-#[derive(Clone, Copy)]
+#[derive(Clone, Copy, Debug, Error)]
 pub enum Fault {
-    Line(LineFault),
+    #[error(transparent)]
+    Line(#[from] LineFault),
+    #[error("an amount and a permille come first")]
     NoPermille,
+    #[error("the last kW has no MWh beside it")]
     UnpairedKw,
-}
-
-impl From<LineFault> for Fault {
-    fn from(fault: LineFault) -> Fault {
-        Fault::Line(fault)
-    }
-}
-
-impl From<AllocError> for Fault {
-    fn from(_e: AllocError) -> Fault {
-        Fault::Line(LineFault::NoMemory)
-    }
-}
-
-impl<T: Drop> From<AllocFailed<T>> for Fault {
-    fn from(_e: AllocFailed<T>) -> Fault {
-        Fault::Line(LineFault::NoMemory)
-    }
-}
-
-impl fmt::Display for Fault {
-    fn fmt<W: fmt::Write>(&self, f: &mut fmt::Formatter<W>) -> fmt::Result {
-        match *self {
-            Fault::Line(fault) => write!(f, "{fault}"),
-            Fault::NoPermille => write!(f, "an amount and a permille come first"),
-            Fault::UnpairedKw => write!(f, "the last kW has no MWh beside it"),
-        }
-    }
 }
 
 // The question on a line, or None where the line is blank.
@@ -57,7 +33,11 @@ pub fn read_question(heap: Global, line: &[u8]) -> Result<Option<Question>, Faul
         [] => Ok(None),
         [_] => Err(Fault::NoPermille),
         [amount, permille, flows @ ..] => {
-            let (kws, mwhs) = split_flows(heap, flows)?;
+            let (pairs, unpaired) = flows.as_chunks::<2>();
+            if !unpaired.is_empty() {
+                return Err(Fault::UnpairedKw);
+            }
+            let (kws, mwhs) = split_flows(heap, pairs).map_err(LineFault::from)?;
             Ok(Some(Question {
                 amount: *amount,
                 permille: *permille,
@@ -68,19 +48,9 @@ pub fn read_question(heap: Global, line: &[u8]) -> Result<Option<Question>, Faul
     }
 }
 
-// The kW and the MWh of the takers, which stand in turn.
-fn split_flows(heap: Global, flows: &[u64]) -> Result<(Vec<u64>, Vec<u64>), Fault> {
-    if flows.len() % 2 != 0 {
-        return Err(Fault::UnpairedKw);
-    }
-    let mut kws = Vec::new(heap);
-    let mut mwhs = Vec::new(heap);
-    for (index, flow) in flows.iter().enumerate() {
-        if index % 2 == 0 {
-            kws.push(*flow)?;
-        } else {
-            mwhs.push(*flow)?;
-        }
-    }
+// The kW and the MWh of the takers, which stand in pairs.
+fn split_flows(heap: Global, pairs: &[[u64; 2]]) -> Result<(Vec<u64>, Vec<u64>), AllocError> {
+    let kws = pairs.iter().map(|[kw, _]| *kw).collect(heap)?;
+    let mwhs = pairs.iter().map(|[_, mwh]| *mwh).collect(heap)?;
     Ok((kws, mwhs))
 }

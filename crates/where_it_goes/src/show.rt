@@ -1,10 +1,8 @@
 // The tables that a person reads.
-ghost use Rattle.std.specs.Prelude.{◌≡◌, slice_index};
-
 use crate::fraction::Fraction;
 use crate::proportion::{difference, exact_proportion};
 use crate::question::Question;
-use number_lines::Outcome;
+use number_lines::{Outcome, sum_of};
 use passing::{Pass, work_out_pass};
 use sharing::{GreatestRemainder, Running, SharingRule};
 use std::io;
@@ -18,20 +16,16 @@ pub fn show_question(rt: &HostRuntime, question: &Question) -> io::Result<Outcom
     let running = show_rule(rt, "running rule", &Running, question)?;
     let greatest = show_rule(rt, "greatest remainder", &GreatestRemainder, question)?;
     println!(rt)?;
-    if running || greatest {
-        Ok(Outcome::Answered)
-    } else {
-        Ok(Outcome::Refused)
-    }
+    Ok(running.or(greatest))
 }
 
-// Shows the pass by one rule, and tells whether it was worked out.
+// Shows the pass by one rule, or why it is refused.
 fn show_rule<R: SharingRule>(
     rt: &HostRuntime,
     name: &str,
     rule: &R,
     question: &Question,
-) -> io::Result<bool> {
+) -> io::Result<Outcome> {
     let amount = question.amount;
     let permille = question.permille;
     match work_out_pass(rule, amount, permille, &question.kws, &question.mwhs) {
@@ -40,11 +34,11 @@ fn show_rule<R: SharingRule>(
             let by_mwh = pass.mwh.part;
             println!(rt; "  {name}: {by_kw} by kW, {by_mwh} by MWh")?;
             show_takers(rt, question, &pass)?;
-            Ok(true)
+            Ok(Outcome::Answered)
         }
         Err(refusal) => {
             println!(rt; "  {name}: {refusal}")?;
-            Ok(false)
+            Ok(Outcome::Refused)
         }
     }
 }
@@ -54,32 +48,17 @@ fn show_takers(rt: &HostRuntime, question: &Question, pass: &Pass) -> io::Result
     println!(rt;
         "    taker              kW         MWh    kW euros   MWh euros    received      exact proportion            difference"
     )?;
-    for taker in 0..pass.takers {
-        show_taker(rt, question, pass, taker)?;
+    let flows = question.kws.iter().zip(&question.mwhs);
+    let euros = pass.kw.shares.iter().zip(&pass.mwh.shares);
+    for (taker, ((kw, mwh), ((kw_euros, mwh_euros), received))) in flows
+        .zip(euros.zip(&pass.received))
+        .enumerate()
+    {
+        show_name(rt, taker)?;
+        print!(rt; "{kw:>10}  {mwh:>10}  {kw_euros:>10}  {mwh_euros:>10}  {received:>10}")?;
+        show_distance(rt, question, taker, *received)?;
     }
     show_sums(rt, pass)
-}
-
-fn show_taker(rt: &HostRuntime, question: &Question, pass: &Pass, taker: usize) -> io::Result<()> {
-    show_name(rt, taker)?;
-    let kw = figure(&question.kws, taker);
-    let mwh = figure(&question.mwhs, taker);
-    let kw_euros = figure(&pass.kw.shares, taker);
-    let mwh_euros = figure(&pass.mwh.shares, taker);
-    let received = figure(&pass.received, taker);
-    print!(rt; "{kw:>10}  {mwh:>10}  {kw_euros:>10}  {mwh_euros:>10}  {received:>10}")?;
-    show_distance(rt, question, taker, received)
-}
-
-// The figure of a taker.
-fn figure(figures: &[u64], taker: usize) -> u64
-    ensures { result ≡ slice_index figures.now taker }
-{
-    if taker < figures.len() {
-        figures[taker]
-    } else {
-        0
-    }
 }
 
 fn show_name(rt: &HostRuntime, taker: usize) -> io::Result<()> {
@@ -97,15 +76,7 @@ fn show_distance(
     taker: usize,
     received: u64,
 ) -> io::Result<()> {
-    let amount = question.amount;
-    let permille = question.permille;
-    let Some((above, below)) = exact_proportion(
-        amount,
-        permille,
-        &question.kws,
-        &question.mwhs,
-        taker,
-    ) else {
+    let Some((above, below)) = exact_proportion(question, taker) else {
         return println!(rt);
     };
     show_fraction(rt, Fraction::new(false, above, below))?;
@@ -128,12 +99,4 @@ fn show_sums(rt: &HostRuntime, pass: &Pass) -> io::Result<()> {
     println!(rt;
         "    sum                                {kw_euros:>10}  {mwh_euros:>10}  {received:>10}"
     )
-}
-
-fn sum_of(numbers: &[u64]) -> u64 {
-    let mut sum = 0u64;
-    for number in numbers {
-        sum = sum.saturating_add(*number);
-    }
-    sum
 }
