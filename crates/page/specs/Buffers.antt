@@ -1,12 +1,12 @@
 -- The next answer row of a run in a buffer that is lent.
-use Rattle.std.specs.Prelude.{◌≡◌, ℕ, ◌+◌, cond, List, length, Some, None, Ok, Err, Option, Result, nat_lt}
+use Rattle.std.specs.Prelude.{◌≡◌, ℕ, cond, List, length, Some, None, Ok, Err, Option, Result, nat_lt}
 use Rattle.refusal.specs.Refusals.{refuse}
 use Rattle.refusal.specs.declared.ground.Ground.TheVariants.{BufferTooSmall}
 use Rattle.refusal.specs.declared.refusal.Refusal.{Refusal}
 use Rattle.rows.specs.Lines.{left_by, write_answer}
 use Rattle.rows.specs.Told.{answer_bytes, answer_numbers}
 use Rattle.rows.specs.declared.answer.AnswerRow.{AnswerRow}
-use Rattle.page.specs.Runs.{Run, next_answer, over, row_behind, rows_left, standing_behind}
+use Rattle.page.specs.Runs.{Run, next_answer, over, run_behind}
 use Rattle.page.specs.declared.error.PageError.{PageError}
 use Rattle.page.specs.declared.error.PageError.TheVariants.{Refused, NoMemory}
 
@@ -34,9 +34,7 @@ as_page (Err refusal) = Err (Refused refusal)
 pub record Answered (before later : Run) (old new : List ℕ) (told : Result ℕ PageError) : Type 0 where
   pub answer : told ≡ with_room (length old) (Err (Refused (refuse BufferTooSmall 0))) (as_page (length_told (length old) (next_answer before)))
   pub buffer : new ≡ with_room (length old) old (buffer_behind (next_answer before) (length_told (length old) (next_answer before)) old)
-  pub stands : later.stands ≡ with_room (length old) before.stands (standing_behind before.stands (before.reading.row + 1) before.reading.left)
-  pub rest : later.reading.left ≡ with_room (length old) before.reading.left (rows_left before.stands before.reading.left)
-  pub counted : later.reading.row ≡ with_room (length old) before.reading.row (row_behind before.stands before.reading.row before.reading.left)
+  pub behind : later ≡ with_room (length old) before (run_behind before)
 
 -- There was no memory for the year: nothing is written, and the run is over.
 pub record OutOfMemory (later : Run) (old new : List ℕ) : Type 0 where

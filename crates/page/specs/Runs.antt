@@ -80,6 +80,7 @@ pub record Run : Type 0 where
   pub stands : Standing
   pub reading : Reading
 
+-- a run that stands here, its rows read so far
 abbrev pub run_at : Standing → Reading → Run
 run_at stands reading = record { stands = stands; reading = reading }
 
@@ -91,12 +92,17 @@ next_answer run = answer_at run.stands (run.reading.row + 1) run.reading.left
 abbrev pub run_new : List ℕ → Run
 run_new page = run_at (standing_new (length page)) (unread page)
 
--- A run came from one to the other with this answer; so many rows were read, and these are left.
+-- the run behind its next answer
+abbrev pub run_behind : Run → Run
+run_behind run =
+    let row : ℕ = run.reading.row in
+    let rows : List (List ℕ) = run.reading.left in
+    run_at (standing_behind run.stands (row + 1) rows) (record { row = row_behind run.stands row rows; left = rows_left run.stands rows })
+
+-- A run came from one to the other with this answer.
 pub record Went (before later : Run) (answer : Option AnswerRow) : Type 0 where
   pub answered : answer ≡ next_answer before
-  pub stands : later.stands ≡ standing_behind before.stands (before.reading.row + 1) before.reading.left
-  pub rest : later.reading.left ≡ rows_left before.stands before.reading.left
-  pub counted : later.reading.row ≡ row_behind before.stands before.reading.row before.reading.left
+  pub behind : later ≡ run_behind before
 
 -- The most answers that a run has yet to give.
 abbrev pub answers_left : Standing → List (List ℕ) → ℕ

@@ -43,6 +43,7 @@ impl PageYear {
     pub fn is_reached_by_calls(&self)
         ensures { Reached (page_makings self.now.calendar) self.now.state }
     {
+        // Where a field is used, the invariant is known.
         let _ = &self.year;
     }
 
