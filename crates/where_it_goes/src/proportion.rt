@@ -3,23 +3,23 @@ ghost use Rattle.std.specs.Prelude.{◌≡◌, ◌-◌, ◌*◌, ◌≤◌, IfSo
 ghost use Rattle.passing.specs.Proportion.{all_of, denominator, numerator};
 
 use crate::fraction::Fraction;
-use crate::question::Question;
+use passing::PassFigures;
 
 // The amount times permille and kW over all kW, plus the amount times the rest and MWh over all MWh, divided by 1,000.
 // None where the figures do not fit.
-pub fn exact_proportion(question: &Question, taker: usize) -> Option<(u128, u128)>
-    ensures { IfSome result (λ f. (f.0 ≡ numerator question.now.amount question.now.permille question.now.kws.items question.now.mwhs.items taker) × (f.1 ≡ denominator question.now.permille question.now.kws.items question.now.mwhs.items)) }
+pub fn exact_proportion(figures: &PassFigures<'_>, taker: usize) -> Option<(u128, u128)>
+    ensures { IfSome result (λ f. (f.0 ≡ numerator figures.now.amount figures.now.permille figures.now.kws.now figures.now.mwhs.now taker) × (f.1 ≡ denominator figures.now.permille figures.now.kws.now figures.now.mwhs.now)) }
 {
-    let permille = question.permille;
+    let permille = figures.permille;
     let rest = 1_000u64.checked_sub(permille)?;
-    let kw = *question.kws.get(taker)?;
-    let mwh = *question.mwhs.get(taker)?;
-    let all_kw = all_of(permille, &question.kws)?;
-    let all_mwh = all_of(rest, &question.mwhs)?;
+    let kw = *figures.kws.get(taker)?;
+    let mwh = *figures.mwhs.get(taker)?;
+    let all_kw = all_of(permille, figures.kws)?;
+    let all_mwh = all_of(rest, figures.mwhs)?;
     let by_kw = product(permille, kw, all_mwh)?;
     let by_mwh = product(rest, mwh, all_kw)?;
     let weighed = by_kw.checked_add(by_mwh)?;
-    let above = u128::from(question.amount).checked_mul(weighed)?;
+    let above = u128::from(figures.amount).checked_mul(weighed)?;
     let below = u128::from(1_000u64).checked_mul(all_kw.checked_mul(all_mwh)?)?;
     Some((above, below))
 }

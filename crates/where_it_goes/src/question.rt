@@ -1,5 +1,8 @@
 // A pass to work out, as a line has it.
+ghost use Rattle.std.specs.Prelude.{◌≡◌};
+
 use number_lines::{LineFault, read_numbers};
+use passing::PassFigures;
 use std::alloc::{AllocError, Global};
 use thiserror::Error;
 
@@ -13,6 +16,20 @@ pub struct Question {
     pub permille: u64,
     pub kws: Vec<u64>,
     pub mwhs: Vec<u64>,
+}
+
+impl Question {
+    // What the pass is worked out from.
+    pub fn figures(&self) -> PassFigures<'_>
+        ensures { (result.amount ≡ self.now.amount) × (result.permille ≡ self.now.permille) × (result.kws.now ≡ self.now.kws.items) × (result.mwhs.now ≡ self.now.mwhs.items) }
+    {
+        PassFigures {
+            amount: self.amount,
+            permille: self.permille,
+            kws: &self.kws,
+            mwhs: &self.mwhs,
+        }
+    }
 }
 
 // Why a line is no question.

@@ -26,9 +26,7 @@ fn show_rule<R: SharingRule>(
     rule: &R,
     question: &Question,
 ) -> io::Result<Outcome> {
-    let amount = question.amount;
-    let permille = question.permille;
-    match work_out_pass(rule, amount, permille, &question.kws, &question.mwhs) {
+    match work_out_pass(rule, &question.figures()) {
         Ok(pass) => {
             let by_kw = pass.kw.part;
             let by_mwh = pass.mwh.part;
@@ -76,7 +74,7 @@ fn show_distance(
     taker: usize,
     received: u64,
 ) -> io::Result<()> {
-    let Some((above, below)) = exact_proportion(question, taker) else {
+    let Some((above, below)) = exact_proportion(&question.figures(), taker) else {
         return println!(rt);
     };
     show_fraction(rt, Fraction::new(false, above, below))?;
