@@ -28,7 +28,7 @@ fn explain_row(rt: &impl Print, number: u64, asked: Result<Request, PageFault>) 
     }
 }
 
-// Prints a line for each row, and how many there are.
+// Prints a line for each row, and how many there are: a loop counts them, since each is printed on the way.
 fn explain_rows(rt: &impl Print, page: &[u8]) -> io::Result<()> {
     let mut rows: u64 = 0;
     let mut refused: u64 = 0;

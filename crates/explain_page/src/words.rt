@@ -5,7 +5,7 @@ use std::fmt;
 #[derive(Clone, Copy)]
 pub struct Words(pub Request);
 
-// The short name of a voltage level.
+// The short name of a voltage level. It is a number here, since a row may ask for a level that is none.
 fn level_name(level: u64) -> &'static str {
     match level {
         1 => "EHS",
@@ -31,6 +31,7 @@ impl fmt::Display for Date {
     }
 }
 
+// Written out, since no derive puts level names and dates into a sentence.
 impl fmt::Display for Words {
     fn fmt<W: fmt::Write>(&self, f: &mut fmt::Formatter<W>) -> fmt::Result {
         match self.0 {

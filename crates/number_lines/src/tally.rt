@@ -54,6 +54,7 @@ impl Tally {
     }
 }
 
+// Written out, since the derive that writes sentences is for errors.
 impl fmt::Display for Tally {
     fn fmt<W: fmt::Write>(&self, f: &mut fmt::Formatter<W>) -> fmt::Result {
         let answered = self.answered;

@@ -8,7 +8,8 @@ use std::io;
 // The most weights that a line may have.
 pub const MOST_WEIGHTS: usize = 64;
 
-// Shows the amount shared by both rules. The line is answered if at least one of them shared it.
+// Shows the amount shared by both rules. The line is answered if at least one of them shared it. Amount and weights stand
+// apart, as the sharing rules take them.
 pub fn show_line(rt: &HostRuntime, amount: u64, weights: &[u64]) -> io::Result<Outcome> {
     let count = weights.len();
     println!(rt; "{amount} euros over {count} weights")?;

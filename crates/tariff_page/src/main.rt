@@ -8,6 +8,7 @@ use std::alloc::AllocError;
 use std::io;
 use std::io::Write;
 
+// No `From`, since both errors are other crates' types.
 fn io_error(error: PageError) -> io::Error {
     match error {
         PageError::NoMemory => AllocError.into(),

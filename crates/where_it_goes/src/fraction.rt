@@ -36,6 +36,7 @@ fn common_divisor(a: u128, b: u128) -> u128 {
     larger
 }
 
+// Written out, since a sign and a denominator may be left away.
 impl fmt::Display for Fraction {
     fn fmt<W: fmt::Write>(&self, f: &mut fmt::Formatter<W>) -> fmt::Result {
         let numerator = self.numerator;
