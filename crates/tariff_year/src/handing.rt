@@ -20,16 +20,8 @@ pub fn hand_down(
     requires received { (k : ℕ) → slice_index received.now k ≤ 5_000_000_000 }
     ensures { systems.new ≡ handed_down (λ taker. slice_index received.now taker) 1 (leading_down couplings.now upper) systems.old }
 {
-    let mut taker = 1;
-    for coupling in couplings {
-        if coupling.upper == upper {
-            let index = (coupling.lower - 1) as usize;
-            let lower = systems[index];
-            systems[index] = System {
-                standing: lower.standing + received[taker],
-                ..lower
-            };
-            taker += 1;
-        }
+    let below = couplings.iter().filter(|coupling| coupling.upper == upper);
+    for (coupling, euros) in below.zip(&received[1..]) {
+        systems[(coupling.lower - 1) as usize].standing += *euros;
     }
 }

@@ -1,66 +1,48 @@
-use Rattle.std.proofs.Common.{ℕ, ◌-◌, ◌*◌, ◌≤◌, List, length, get_or, ap, ◌∙◌, arith}
-use Rattle.std.proofs.lemmas.List.{take_all}
+use Rattle.std.proofs.Common.{rules, tests, ◌≡◌, ℕ, ◌+◌, ◌-◌, ◌*◌, ◌<◌, ◌++◌, ◌∷◌, [], List, length, get_or, take, drop, sym, ap, ◌∙◌, arith}
+use Rattle.std.proofs.lemmas.Iterator.Consumers.{YieldsList-turn, YieldsList-end}
+use Rattle.std.proofs.lemmas.List.{length_push}
+use Rattle.std.proofs.lemmas.List.Sums.{length-filter}
 use Rattle.year_model.specs.declared.tables.Coupling.{Coupling}
-use Rattle.year_model.specs.declared.tables.System.{System}
 use Rattle.year_model.specs.Passes.{handed_down}
-use Rattle.year_model.specs.Sound.{no_coupling}
-use Rattle.tariff_year.specs.Takings.{blank_system, leading_down}
-use Rattle.tariff_year.proofs.Gathering.{leading_same}
-use Rattle.tariff_year.proofs.HandedOn.{handed_more, standing_more, taker_more, taker_room}
+use Rattle.tariff_year.specs.Takings.{leading_down}
+use Rattle.tariff_year.proofs.Gathering.{leads_from}
+use Rattle.tariff_year.proofs.HandedOn.{NextPair, all_taken, handed_more, next_pair, pairs_yielded, standing_more}
 use Rattle.tariff_year.proofs.handing.hand_down.Goals as goal
-use Rattle.tariff_year.proofs.handing.hand_down.Goals.{then-coupling-upper, else-coupling-upper}
-
-pub bounds-received-taker : goal.bounds-received-taker
-bounds-received-taker c = taker_room c.args.couplings.now c.args.upper c.loop-coupling.coupling-index c.loop-coupling.taker c.requires.few c.loop-coupling-test.true c.if-coupling-upper.true c.loop-coupling.invariant.0
-
-pub offset_bounds-received-taker : goal.offset_bounds-received-taker
-offset_bounds-received-taker c =
-    let room = taker_room c.args.couplings.now c.args.upper c.loop-coupling.coupling-index c.loop-coupling.taker c.requires.few c.loop-coupling-test.true c.if-coupling-upper.true c.loop-coupling.invariant.0 in
-    omega arith
 
 pub overflow_add-systems : goal.overflow_add-systems
 overflow_add-systems c =
-    let room = taker_room c.args.couplings.now c.args.upper c.loop-coupling.coupling-index c.loop-coupling.taker c.requires.few c.loop-coupling-test.true c.if-coupling-upper.true c.loop-coupling.invariant.0 in
-    let cs = c.args.couplings.now in
-    omega (arith, c.loop-coupling.invariant.2 ((get_or cs c.loop-coupling.coupling-index no_coupling).lower - 1), c.requires.received c.loop-coupling.taker)
-
-pub overflow_add-taker : goal.overflow_add-taker
-overflow_add-taker c =
-    let room = taker_room c.args.couplings.now c.args.upper c.loop-coupling.coupling-index c.loop-coupling.taker c.requires.few c.loop-coupling-test.true c.if-coupling-upper.true c.loop-coupling.invariant.0 in
-    omega arith
+    let now =
+    next_pair c.args.couplings.now c.args.upper (length c.loop-coupling.yielded) (length c.args.systems.now) c.args.received.now c.in-Some.coupling.now c.in-Some.euros.now c.requires.lead
+    (YieldsList-turn (pairs_yielded c.args.couplings.now c.args.upper c.args.received.now (cc) (cc) c.filter-below.ensures.closure (λ x r q k. search (rules, tests)) (cc) (search rules))
+    c.loop-coupling.yielded c.loop-coupling.coupling-iterator c.loop-coupling.yielded_by c.next.result c.next.new.self (c.in-Some.coupling, c.in-Some.euros) c.in-Some.is c.next.ensures.steps) in
+    omega (arith, now.inside, now.euros_is, c.requires.few, length-filter (leads_from c.args.upper) c.args.couplings.now, c.loop-coupling.invariant.1 (c.in-Some.coupling.now.lower - 1), c.requires.received (length c.loop-coupling.yielded + 1))
 
 pub loop-coupling-preserved : goal.loop-coupling-preserved
 loop-coupling-preserved c =
+    let now =
+    next_pair c.args.couplings.now c.args.upper (length c.loop-coupling.yielded) (length c.args.systems.now) c.args.received.now c.in-Some.coupling.now c.in-Some.euros.now c.requires.lead
+    (YieldsList-turn (pairs_yielded c.args.couplings.now c.args.upper c.args.received.now (cc) (cc) c.filter-below.ensures.closure (λ x r q k. search (rules, tests)) (cc) (search rules))
+    c.loop-coupling.yielded c.loop-coupling.coupling-iterator c.loop-coupling.yielded_by c.next.result c.next.new.self (c.in-Some.coupling, c.in-Some.euros) c.in-Some.is c.next.ensures.steps) in
+    let received = c.args.received.now in
     let cs = c.args.couplings.now in
-    let n = c.args.upper in
-    let i = c.loop-coupling.coupling-index in
-    let taker = c.loop-coupling.taker in
+    let n = length c.loop-coupling.yielded in
     let zs = c.loop-coupling.systems in
-    let f : ℕ → ℕ = λ k. get_or c.args.received.now k 0 in
-    let inside = c.loop-coupling-test.true in
-    let inv = c.loop-coupling.invariant in
-    let lead = c.requires.lead i inside in
+    let below = c.in-Some.coupling.now in
+    let euros = c.in-Some.euros.now in
+    let more : length (c.loop-coupling.yielded ++ (c.in-Some.coupling, c.in-Some.euros) ∷ []) ≡ n + 1 = length_push c.loop-coupling.yielded (c.in-Some.coupling, c.in-Some.euros) in
     let long = c.loop-coupling.auto.systems in
-    elim c.if-coupling-upper.branch [
-      | then-coupling-upper w ↦
-          let here = w.if-coupling-upper.true in
-          let high : (get_or cs i no_coupling).lower ≤ length zs = omega arith in
-          let grown = standing_more zs ((get_or cs i no_coupling).lower - 1) (5_000_000_000 * taker) (f taker) (omega arith) inv.2 in (
-            w.taker-is ∙ taker_more cs n i taker inside here inv.0,
-            w.systems-is ∙ handed_more f cs n i taker c.args.systems.now zs inside here lead.0 high inv.0 inv.1,
-            λ k. let same = ap (λ (xs : List System). (get_or xs k blank_system).standing) w.systems-is in omega (arith, grown k, w.taker-is, c.requires.received taker),
-          )
-      | else-coupling-upper w ↦
-          let other = leading_same cs n i inside w.if-coupling-upper.false in (
-            (cc (w.taker-is, inv.0)),
-            (cc (w.systems-is, inv.1)),
-            λ k. let same = ap (λ (xs : List System). (get_or xs k blank_system).standing) w.systems-is in omega (arith, inv.2 k, w.taker-is),
-          )
-    ]
+    let inside : below.lower - 1 < length zs = omega (arith, now.low, now.high) in
+    let grown = standing_more zs (below.lower - 1) (5_000_000_000 * (n + 1)) euros inside c.loop-coupling.invariant.1 in (
+      handed_more received cs c.args.upper n (length c.args.systems.now) euros below c.args.systems.now zs now long c.loop-coupling.invariant.0
+      ∙ ap (λ k. handed_down (λ taker. get_or received taker 0) 1 (take k (leading_down cs c.args.upper)) c.args.systems.now) (sym more),
+      λ k. omega (arith, grown k, more, now.euros_is, c.requires.received (n + 1)),
+    )
 
 pub returns : goal.returns
 returns c =
-    let cs = c.args.couplings.now in
-    let f : ℕ → ℕ = λ k. get_or c.args.received.now k 0 in
-    c.loop-coupling.invariant.1
-    ∙ ap (λ (xs : List Coupling). handed_down f 1 (leading_down xs c.args.upper) c.args.systems.now) (take_all c.loop-coupling.coupling-index cs c.loop-coupling-test.false)
+    let end =
+    YieldsList-end
+    (pairs_yielded c.args.couplings.now c.args.upper c.args.received.now (cc) (cc) c.filter-below.ensures.closure (λ x r q k. search (rules, tests)) (cc) (search rules))
+    c.loop-coupling.yielded c.loop-coupling.coupling-iterator c.loop-coupling.yielded_by c.next.result c.next.new.self c.in-None.is c.next.ensures.steps in
+    let all = all_taken c.args.couplings.now c.args.upper (length c.loop-coupling.yielded) c.args.received.now c.requires.few (search rules) end.1 in
+    c.loop-coupling.invariant.0 ∙ ap (λ (cs : List Coupling). handed_down (λ taker. get_or c.args.received.now taker 0) 1 cs c.args.systems.now) all

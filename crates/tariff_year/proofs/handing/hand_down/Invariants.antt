@@ -5,6 +5,5 @@ use Rattle.tariff_year.proofs.handing.hand_down.Given as goal
 
 abbrev pub invariant-loop-coupling : goal.invariant-loop-coupling
 invariant-loop-coupling l =
-    (l.taker ≡ length (leading_down (take l.coupling-index l.couplings) l.upper) + 1)
-    × (l.systems ≡ handed_down (λ taker. get_or l.received taker 0) 1 (leading_down (take l.coupling-index l.couplings) l.upper) l.initial.systems)
-    × ((k : ℕ) → (get_or l.systems k blank_system).standing ≤ 5_000_000_000 * l.taker)
+    (l.systems ≡ handed_down (λ taker. get_or l.received taker 0) 1 (take (length l.yielded) (leading_down l.couplings l.fn.upper)) l.initial.systems)
+    × ((k : ℕ) → (get_or l.systems k blank_system).standing ≤ 5_000_000_000 * (length l.yielded + 1))
