@@ -5,7 +5,7 @@ ghost use Rattle.passing.specs.Passing.{nothing_to_go_by, out_of_bounds};
 use sharing::{LARGEST_AMOUNT, any_above};
 
 // The largest kW and the largest MWh of one taker.
-const LARGEST_FLOW: u64 = 30_000_000;
+pub const LARGEST_FLOW: u64 = 30_000_000;
 
 // The amount that stands at a system, how many thousandths of it go by kW, and the kW and the MWh of the takers in
 // their order.

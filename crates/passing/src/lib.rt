@@ -6,7 +6,7 @@ mod figures;
 mod pass;
 mod work_out;
 
-pub use figures::PassFigures;
+pub use figures::{LARGEST_FLOW, PassFigures};
 pub use pass::{Column, MOST_TAKERS, Pass};
 pub use work_out::work_out_pass;
 

@@ -1,6 +1,6 @@
 -- Handing down, one coupling after another.
-use Rattle.std.proofs.Common.{◌≡◌, ℕ, Bool, Bor, ◌+◌, ◌-◌, ◌<◌, ◌≤◌, List, [], ◌∷◌, ◌++◌, length, get_or, take, drop, set, min, Option, sym, ap, subst, ◌∙◌, ⊎_elim, arith}
-use Rattle.std.specs.List.{All, zip}
+use Rattle.std.proofs.Common.{◌≡◌, ℕ, Bool, Bor, ◌+◌, ◌-◌, ◌<◌, ◌≤◌, List, [], ◌∷◌, ◌++◌, length, get_or, take, drop, set, Option, sym, ap, subst, ◌∙◌, ⊎_elim, arith}
+use Rattle.std.specs.List.{zip}
 use Rattle.std.specs.Fn.{CalledAt, Mut}
 use Rattle.std.specs.Iterator.Adapters.{filter_callee, filter_source, filter_steps, zip_first, zip_second}
 use Rattle.std.specs.Slice.Iter.{iter_rest}
@@ -61,8 +61,8 @@ next_pair cs upper n count received c euros lead turn =
     let pair = turn.1 ∙ get_or-zip below (drop 1 received) n (c, euros) inside there in
     let here : get_or below n c ≡ c = sym (ap (λ (p : Coupling × ℕ). p.0) pair) in
     let lower : (1 ≤ c.lower) × (c.lower ≤ count) = subst (λ (d : Coupling). (1 ≤ d.lower) × (d.lower ≤ count)) here
-      (All-get_or (λ (d : Coupling). (1 ≤ d.lower) × (d.lower ≤ count)) below n c inside
-      (All-filter (leads_from upper) (λ (d : Coupling). (1 ≤ d.lower) × (d.lower ≤ count)) cs (All-from_get_or (λ (d : Coupling). (1 ≤ d.lower) × (d.lower ≤ count)) cs no_coupling lead))) in
+    (All-get_or (λ (d : Coupling). (1 ≤ d.lower) × (d.lower ≤ count)) below n c inside
+    (All-filter (leads_from upper) (λ (d : Coupling). (1 ≤ d.lower) × (d.lower ≤ count)) cs (All-from_get_or (λ (d : Coupling). (1 ≤ d.lower) × (d.lower ≤ count)) cs no_coupling lead))) in
     record {
       inside = inside;
       here = here;

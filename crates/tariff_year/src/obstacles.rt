@@ -5,7 +5,8 @@ ghost use Rattle.tariff_year.specs.Obstacles.{first_way};
 use refusal::{Ground, Refusal};
 use year_model::{Coupling, System};
 
-// The first unfixed system with more takers than the longest list, or with nothing to go by.
+// The first unfixed system with more takers than the longest list, or with nothing to go by. Two loops left by a label, as
+// the project asks here, and so takers are counted where too many of them end the search.
 pub fn first_obstacle(longest: usize, systems: &[System], couplings: &[Coupling]) -> Option<Refusal>
     requires some { 1 ≤ longest }
     requires few { length couplings.now ≤ 256 }

@@ -131,6 +131,7 @@ impl<E: Edition + Drop, R: SharingRule + Drop> TariffYear<E, R> {
         ensures kept { self.new.basis ≡ self.old.basis }
     {
         let mut landed = 0;
+        // A range, since passing a system changes the list that an iterator would borrow.
         for index in 0..self.tables.systems.len() {
             landed += self.settle_system(level, index as u64 + 1)?;
         }

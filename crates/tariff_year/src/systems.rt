@@ -9,15 +9,13 @@ use crate::look_up::{bound, listed, unfixed};
 use crate::year::{MOST_COUPLINGS, MOST_SYSTEMS, TariffYear};
 use billing::LARGEST_NUMBER;
 use edition::Edition;
+use passing::LARGEST_FLOW;
 use refusal::{Ground, Refusal};
 use sharing::{LARGEST_AMOUNT, SharingRule};
 use year_model::{Coupling, System};
 
 // The category with the largest number.
 const LARGEST_CATEGORY: u64 = 99;
-
-// The largest kW and the largest MWh.
-const LARGEST_FLOW: u64 = 30_000_000;
 
 // The level with the largest number; costs go down to it.
 pub const LOWEST_LEVEL: u64 = 7;

@@ -1,4 +1,4 @@
-use Rattle.std.proofs.Common.{rules, tests, ◌≡◌, ℕ, ◌+◌, ◌-◌, ◌*◌, ◌<◌, ◌++◌, ◌∷◌, [], List, length, get_or, take, drop, sym, ap, ◌∙◌, arith}
+use Rattle.std.proofs.Common.{rules, tests, ◌≡◌, ◌+◌, ◌-◌, ◌*◌, ◌<◌, ◌++◌, ◌∷◌, [], List, length, get_or, take, sym, ap, ◌∙◌, arith}
 use Rattle.std.proofs.lemmas.Iterator.Consumers.{YieldsList-turn, YieldsList-end}
 use Rattle.std.proofs.lemmas.List.{length_push}
 use Rattle.std.proofs.lemmas.List.Sums.{length-filter}
@@ -6,7 +6,7 @@ use Rattle.year_model.specs.declared.tables.Coupling.{Coupling}
 use Rattle.year_model.specs.Passes.{handed_down}
 use Rattle.tariff_year.specs.Takings.{leading_down}
 use Rattle.tariff_year.proofs.Gathering.{leads_from}
-use Rattle.tariff_year.proofs.HandedOn.{NextPair, all_taken, handed_more, next_pair, pairs_yielded, standing_more}
+use Rattle.tariff_year.proofs.HandedOn.{all_taken, handed_more, next_pair, pairs_yielded, standing_more}
 use Rattle.tariff_year.proofs.handing.hand_down.Goals as goal
 
 pub overflow_add-systems : goal.overflow_add-systems
@@ -34,7 +34,7 @@ loop-coupling-preserved c =
     let inside : below.lower - 1 < length zs = omega (arith, now.low, now.high) in
     let grown = standing_more zs (below.lower - 1) (5_000_000_000 * (n + 1)) euros inside c.loop-coupling.invariant.1 in (
       handed_more received cs c.args.upper n (length c.args.systems.now) euros below c.args.systems.now zs now long c.loop-coupling.invariant.0
-      ∙ ap (λ k. handed_down (λ taker. get_or received taker 0) 1 (take k (leading_down cs c.args.upper)) c.args.systems.now) (sym more),
+          ∙ ap (λ k. handed_down (λ taker. get_or received taker 0) 1 (take k (leading_down cs c.args.upper)) c.args.systems.now) (sym more),
       λ k. omega (arith, grown k, more, now.euros_is, c.requires.received (n + 1)),
     )
 
