@@ -12,7 +12,7 @@ pub struct Draft {
     pub(crate) month: u64,
 }
 
-// The numbers that a draft is told by.
+// The numbers that a draft is told by. They can be copied, which a draft cannot, so they are a type of their own.
 #[derive(Clone, Copy)]
 pub struct DraftNumbers {
     pub book: u64,

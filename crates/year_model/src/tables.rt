@@ -1,7 +1,8 @@
 // The plain tables of a tariff year. Systems, couplings and contracts are numbered from 1 in their order.
 use billing::Fixing;
 
-// A grid level of the operator, with its consumers' kW and MWh, and where its euros are.
+// A grid level of the operator, with its consumers' kW and MWh, and where its euros are. Level and category are numbers: levels
+// are compared by rank and passed in turn, and which categories there are is the edition's to say.
 #[derive(Clone, Copy)]
 pub struct System {
     pub level: u64,
