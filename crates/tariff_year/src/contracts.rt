@@ -112,6 +112,7 @@ impl<E: Edition + Drop, R: SharingRule + Drop> TariffYear<E, R> {
         ensures accepts { spendable (makings E.Edition R.SharingRule self.old.basis) (view self.old.tables) draft.book draft.contract draft.month ≡ true → is_ok result ≡ true }
         ensures own { OthersStay draft.contract (view self.old.tables) (view self.new.tables) }
     {
+        // No `ok_or`, which would move the draft before it is known to be refused.
         let Some((found, started)) = self.draft_out(&draft) else {
             return Err(Unspent {
                 refusal: Refusal::of(Ground::DraftNotOut),
@@ -148,6 +149,7 @@ impl<E: Edition + Drop, R: SharingRule + Drop> TariffYear<E, R> {
         ensures back { Back draft result }
         ensures accepts { spendable (makings E.Edition R.SharingRule self.old.basis) (view self.old.tables) draft.book draft.contract draft.month ≡ true → is_ok result ≡ true }
     {
+        // As in `issue`.
         let Some(_) = self.draft_out(&draft) else {
             return Err(Unspent {
                 refusal: Refusal::of(Ground::DraftNotOut),
