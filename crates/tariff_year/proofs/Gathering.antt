@@ -1,8 +1,18 @@
 -- The takers of a system, gathered one coupling after another.
-use Rattle.std.proofs.Common.{◌≡◌, ℕ, ◌+◌, ◌<◌, ◌≤◌, Bool, cond, eqb, List, [], ◌∷◌, ◌++◌, map, length, get_or, take, set, sym, ap, ◌∙◌, arith}
+use Rattle.std.proofs.Common.{◌≡◌, ℕ, ◌+◌, ◌<◌, ◌≤◌, Bool, Bor, cond, eqb, List, [], ◌∷◌, ◌++◌, map, length, get_or, take, set, min, refl, sym, ap, ◌∙◌, arith}
+use Rattle.std.specs.Fn.{CalledAt, Mut}
+use Rattle.std.specs.Iterator.Adapters.{filter_callee, filter_source, filter_steps, zip_first, zip_second}
+use Rattle.std.specs.List.{range_with_len, zip}
+use Rattle.std.specs.Slice.Iter.{iter_rest}
+use Rattle.std.specs.declared.ops.Range.{Range}
+use Rattle.std.proofs.iter.Yields.{fronts, nat_range_steps}
+use Rattle.std.proofs.lemmas.Iterator.{YieldsList, YieldsList-from_range, YieldsList-from_slice, YieldsList-from_zip, zips}
+use Rattle.std.proofs.lemmas.Iterator.Consumers.{YieldsList-from_filter}
+use Rattle.std.proofs.lemmas.List.FromFn.{get_or-range_with_len, length-range_with_len}
+use Rattle.std.proofs.lemmas.Slice.Zip.{get_or-zip, length-zip}
 use Rattle.std.proofs.lemmas.List.Elements.{filter_more}
-use Rattle.std.proofs.lemmas.List.{append-nil, length-map, length_push, map_push}
-use Rattle.std.proofs.lemmas.List.Sums.{count_by_more_yes, length-filter, sum_by-take-le}
+use Rattle.std.proofs.lemmas.List.{append-nil, length-map, length_push, length-take-le, map_push, take_all, take_more}
+use Rattle.std.proofs.lemmas.List.Sums.{length-filter, sum_by-take-le}
 use Rattle.std.proofs.lemmas.Bool.{cond-false, cond-true, eq-eqb, ne_eqb}
 use Rattle.year_model.specs.declared.tables.Coupling.{Coupling}
 use Rattle.year_model.specs.Sound.{no_coupling}
@@ -52,29 +62,72 @@ takers_counted f first cs n =
 pub takers_among : (cs : List Coupling) (n i : ℕ) → below_count (take i cs) n ≤ below_count cs n
 takers_among cs n i = sum_by-take-le (λ c. cond (leads_from n c) 1 0) cs i
 
--- Where one more comes there is room for it.
-pub takers_room : (f : Coupling → ℕ) (first : ℕ) (cs : List Coupling) (n i : ℕ) → below_count cs n ≤ 31 → i < length cs → (get_or cs i no_coupling).upper ≡ n
-    → length (first ∷ map f (leading_down (take i cs) n)) < 32
-takers_room f first cs n i few h is =
-    let more = count_by_more_yes (leads_from n) cs i no_coupling h (eq-eqb _ _ is) in
-    omega (arith, takers_counted f first (take i cs) n, takers_among cs n (i + 1))
-
 -- what is gathered of the takers once the first couplings are seen
 abbrev pub seen : (Coupling → ℕ) → ℕ → List Coupling → ℕ → ℕ → List ℕ
 seen f first cs n i = first ∷ map f (leading_down (take i cs) n)
 
--- The next taker counts,
+-- The next taker counts.
 pub counted_more : (f : Coupling → ℕ) (first : ℕ) (cs : List Coupling) (n i count : ℕ) → i < length cs → (get_or cs i no_coupling).upper ≡ n → count ≡ length (seen f first cs n i) → count + 1 ≡ length (seen f first cs n (i + 1))
 counted_more f first cs n i count h is e =
     let more = ap length (gathered_more f first cs n i h is) in
     omega (arith, length_push (seen f first cs n i) (f (get_or cs i no_coupling)))
 
--- and its figure is placed.
-pub placed_next : (f : Coupling → ℕ) (first : ℕ) (cs : List Coupling) (n i count : ℕ) (ks : List ℕ) → i < length cs → (get_or cs i no_coupling).upper ≡ n → count ≡ length (seen f first cs n i) → count < 32
-    → ks ≡ in_places 32 (seen f first cs n i) → set ks count (f (get_or cs i no_coupling)) ≡ in_places 32 (seen f first cs n (i + 1))
-placed_next f first cs n i count ks h is e room placed =
-    let y = f (get_or cs i no_coupling) in
-    ap (λ (xs : List ℕ). set xs count y) placed
-    ∙ ap (λ k. set (in_places 32 (seen f first cs n i)) k y) e
-    ∙ filled_more (seen f first cs n i) 32 y (omega arith)
-    ∙ ap (in_places 32) (sym (gathered_more f first cs n i h is))
+-- What the chain of the couplings that lead down yields.
+pub below_yielded : {F : Type 0} {g : Mut F (Bor (Bor Coupling) × Unit {0}) Bool} {p f : F} {s : _} (cs : List Coupling) (upper : ℕ)
+    → iter_rest (filter_source s) ≡ cs → filter_callee s ≡ p → p ≡ f → ((x : Bor Coupling) (b : Bool) (q : F) → CalledAt g f x b q → (q ≡ f) × (b ≡ leads_from upper x.now))
+    → YieldsList (filter_steps fronts g) (λ y. y.now) s (leading_down cs upper)
+below_yielded {F} {g} cs upper source callee closure tests = YieldsList-from_filter g (leads_from upper) (YieldsList-from_slice cs source) (callee ∙ closure) tests
+
+-- Once as many are seen as there are places for them, all are seen.
+pub all_below : (cs : List Coupling) (upper n : ℕ) → below_count cs upper ≤ 31 → n ≡ min 31 (length (leading_down cs upper)) → take n (leading_down cs upper) ≡ leading_down cs upper
+all_below cs upper n few all = take_all n (leading_down cs upper) (omega (arith, length-filter (leads_from upper) cs))
+
+-- each place but the consumers', beside the coupling whose figures it holds
+abbrev pub placed : List Coupling → ℕ → List (ℕ × Coupling)
+placed cs upper = zip (range_with_len 1 31) (leading_down cs upper)
+
+-- What the chain of these pairs yields.
+pub placed_yielded : {F : Type 0} {g : Mut F (Bor (Bor Coupling) × Unit {0}) Bool} {p f : F} {s : _} (cs : List Coupling) (upper : ℕ)
+    → ◌≡◌ {A = Range ℕ} (zip_first s) (record { start = 1; end = 32 }) → iter_rest (filter_source (zip_second s)) ≡ cs → filter_callee (zip_second s) ≡ p → p ≡ f
+    → ((x : Bor Coupling) (b : Bool) (q : F) → CalledAt g f x b q → (q ≡ f) × (b ≡ leads_from upper x.now))
+    → YieldsList (zips nat_range_steps (filter_steps fronts g)) (λ p. (p.0, p.1.now)) s (placed cs upper)
+placed_yielded cs upper places source callee closure tests = YieldsList-from_zip (YieldsList-from_range 1 32 31 places refl) (below_yielded cs upper source callee closure tests)
+
+-- this coupling is the next that leads down, and this is its place
+pub record NextPlace (cs : List Coupling) (upper n taker : ℕ) (c : Coupling) : Type 0 where
+  pub inside : n < length (leading_down cs upper)
+  pub here : get_or (leading_down cs upper) n c ≡ c
+  pub place : taker ≡ n + 1
+  pub room : n + 1 < 32
+
+-- A pair that is next in the list of pairs.
+pub next_place : (cs : List Coupling) (upper n taker : ℕ) (c : Coupling) → (n < length (placed cs upper)) × ((taker, c) ≡ get_or (placed cs upper) n (taker, c)) → NextPlace cs upper n taker c
+next_place cs upper n taker c turn =
+    let below = leading_down cs upper in
+    let long = length-zip (range_with_len 1 31) below in
+    let places = length-range_with_len 1 31 in
+    let inside : n < length below = omega (arith, turn.0) in
+    let room : n < 31 = omega (arith, turn.0) in
+    let pair = turn.1 ∙ get_or-zip (range_with_len 1 31) below n (taker, c) (omega arith) inside in
+    record {
+      inside = inside;
+      here = sym (ap (λ (p : ℕ × Coupling). p.1) pair);
+      place = ap (λ (p : ℕ × Coupling). p.0) pair ∙ get_or-range_with_len 1 31 n taker room ∙ (omega arith);
+      room = omega arith;
+    }
+
+-- Its figure is placed.
+pub placed_next : (f : Coupling → ℕ) (first : ℕ) (cs : List Coupling) (upper n taker : ℕ) (c : Coupling) (ks : List ℕ) → NextPlace cs upper n taker c
+    → ks ≡ in_places 32 (first ∷ map f (take n (leading_down cs upper))) → set ks taker (f c) ≡ in_places 32 (first ∷ map f (take (n + 1) (leading_down cs upper)))
+placed_next f first cs upper n taker c ks next so_far =
+    let below = leading_down cs upper in
+    let xs = first ∷ map f (take n below) in
+    let long : length xs ≡ n + 1 = omega (arith, length-map (take n below) f, length-take-le n below (omega (arith, next.inside))) in
+    ap (λ (js : List ℕ). set js taker (f c)) so_far
+    ∙ ap (λ k. set (in_places 32 xs) k (f c)) (next.place ∙ sym long)
+    ∙ filled_more xs 32 (f c) (omega (arith, next.room))
+    ∙ ap (λ (ks : List ℕ). in_places 32 (first ∷ ks)) (sym (ap (map f) (take_more below n c next.inside ∙ ap (λ (d : Coupling). take n below ++ d ∷ []) next.here) ∙ map_push f (take n below) c))
+
+-- Once all pairs are seen, so are all couplings that lead down.
+pub all_gathered : (cs : List Coupling) (upper n : ℕ) → below_count cs upper ≤ 31 → n ≡ length (placed cs upper) → take n (leading_down cs upper) ≡ leading_down cs upper
+all_gathered cs upper n few all = all_below cs upper n few (omega (arith, length-zip (range_with_len 1 31) (leading_down cs upper), length-range_with_len 1 31))

@@ -6,10 +6,8 @@ use Rattle.std.specs.Iterator.Adapters.{filter_callee, filter_source, filter_ste
 use Rattle.std.specs.Slice.Iter.{iter_rest}
 use Rattle.std.proofs.iter.Yields.{fronts}
 use Rattle.std.proofs.lemmas.Iterator.{YieldsList, YieldsList-from_slice, YieldsList-from_zip, zips}
-use Rattle.std.proofs.lemmas.Iterator.Consumers.{YieldsList-from_filter}
 use Rattle.std.proofs.lemmas.List.{get_or_default, get_or-drop, get_or-set_other, get_or-set_same, length-drop, length-take-le, take_all, take_more}
 use Rattle.std.proofs.lemmas.List.Elements.{All-filter, All-from_get_or, All-get_or}
-use Rattle.std.proofs.lemmas.List.Sums.{length-filter}
 use Rattle.std.proofs.lemmas.Slice.Zip.{get_or-zip, length-zip}
 use Rattle.std.proofs.lemmas.Bool.{cases_eq}
 use Rattle.year_model.specs.declared.tables.Coupling.{Coupling}
@@ -19,7 +17,7 @@ use Rattle.year_model.specs.Sound.{no_coupling}
 use Rattle.year_model.specs.Systems.{below_count, standing_at}
 use Rattle.year_model.proofs.Lookups.{numbered_from_entry}
 use Rattle.tariff_year.specs.Takings.{LeadWithin, blank_system, leading_down}
-use Rattle.tariff_year.proofs.Gathering.{leads_from}
+use Rattle.tariff_year.proofs.Gathering.{all_below, below_yielded, leads_from}
 
 -- One coupling more hands down last.
 pub handed_down_push : (f : ℕ → ℕ) (taker : ℕ) (cs : List Coupling) (c : Coupling) (xs : List System)
@@ -38,8 +36,8 @@ paired cs upper received = zip (leading_down cs upper) (drop 1 received)
 pub pairs_yielded : {F : Type 0} {g : Mut F (Bor (Bor Coupling) × Unit {0}) Bool} {p f : F} {s : _} (cs : List Coupling) (upper : ℕ) (received : List ℕ)
     → iter_rest (filter_source (zip_first s)) ≡ cs → filter_callee (zip_first s) ≡ p → p ≡ f → ((x : Bor Coupling) (b : Bool) (q : F) → CalledAt g f x b q → (q ≡ f) × (b ≡ leads_from upper x.now))
     → iter_rest (zip_second s) ≡ take 31 (drop 1 received) → length received ≡ 32 → YieldsList (zips (filter_steps fronts g) fronts) (λ p. (p.0.now, p.1.now)) s (paired cs upper received)
-pairs_yielded {F} {g} cs upper received source callee closure tests others long =
-    YieldsList-from_zip (YieldsList-from_filter g (leads_from upper) (YieldsList-from_slice cs source) (callee ∙ closure) tests)
+pairs_yielded cs upper received source callee closure tests others long =
+    YieldsList-from_zip (below_yielded cs upper source callee closure tests)
     (YieldsList-from_slice (drop 1 received) (others ∙ take_all 31 (drop 1 received) (omega (arith, length-drop 1 received))))
 
 -- this coupling is the next that leads down, these euros are what its taker received, and there is a system below
@@ -107,6 +105,4 @@ standing_more zs j limit euros inside low k =
 
 -- Once all pairs are seen, each coupling that leads down has handed down.
 pub all_taken : (cs : List Coupling) (upper n : ℕ) (received : List ℕ) → below_count cs upper ≤ 31 → length received ≡ 32 → n ≡ length (paired cs upper received) → take n (leading_down cs upper) ≡ leading_down cs upper
-all_taken cs upper n received few long all =
-    let below = leading_down cs upper in
-    take_all n below (omega (arith, length-zip below (drop 1 received), length-drop 1 received, length-filter (leads_from upper) cs))
+all_taken cs upper n received few long all = all_below cs upper n few (omega (arith, length-zip (leading_down cs upper) (drop 1 received), length-drop 1 received))

@@ -150,7 +150,7 @@ impl<E: Edition + Drop, R: SharingRule + Drop> TariffYear<E, R> {
 }
 
 // How many couplings lead down from this system.
-fn count_below(couplings: &[Coupling], upper: u64) -> u64
+pub fn count_below(couplings: &[Coupling], upper: u64) -> u64
     ensures { result ≡ below_count couplings.now upper }
 {
     couplings

@@ -4,6 +4,7 @@ ghost use Rattle.sharing.specs.ShareOut.{in_places};
 ghost use Rattle.year_model.specs.Systems.{below_count};
 ghost use Rattle.tariff_year.specs.Takings.{leading_down};
 
+use crate::systems::count_below;
 use passing::MOST_TAKERS;
 use year_model::Coupling;
 
@@ -26,13 +27,14 @@ pub fn gather(couplings: &[Coupling], upper: u64, kw: u64, mwh: u64) -> Takers
     let mut mwhs = [0; MOST_TAKERS];
     kws[0] = kw;
     mwhs[0] = mwh;
-    let mut count = 1;
-    for coupling in couplings {
-        if coupling.upper == upper {
-            kws[count] = coupling.kw;
-            mwhs[count] = coupling.mwh;
-            count += 1;
-        }
+    let below = couplings.iter().filter(|coupling| coupling.upper == upper);
+    for (taker, coupling) in (1..MOST_TAKERS).zip(below) {
+        kws[taker] = coupling.kw;
+        mwhs[taker] = coupling.mwh;
     }
-    Takers { count, kws, mwhs }
+    Takers {
+        count: 1 + count_below(couplings, upper) as usize,
+        kws,
+        mwhs,
+    }
 }

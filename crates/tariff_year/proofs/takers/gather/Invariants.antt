@@ -1,10 +1,10 @@
-use Rattle.std.proofs.Common.{◌≡◌, length}
+use Rattle.std.proofs.Common.{◌≡◌, ◌+◌, ◌∷◌, length, map, take}
 use Rattle.sharing.specs.ShareOut.{in_places}
-use Rattle.tariff_year.proofs.Gathering.{seen}
+use Rattle.tariff_year.specs.Takings.{leading_down}
 use Rattle.tariff_year.proofs.takers.gather.Given as goal
 
-abbrev pub invariant-loop-coupling : goal.invariant-loop-coupling
-invariant-loop-coupling l =
-    (l.count ≡ length (seen (λ c. c.kw) l.kw l.couplings l.upper l.coupling-index))
-    × (l.kws ≡ in_places 32 (seen (λ c. c.kw) l.kw l.couplings l.upper l.coupling-index))
-    × (l.mwhs ≡ in_places 32 (seen (λ c. c.mwh) l.mwh l.couplings l.upper l.coupling-index))
+abbrev pub invariant-loop-taker : goal.invariant-loop-taker
+invariant-loop-taker l =
+    (l.taker-iterator.a ≡ record { start = length l.yielded + 1; end = 32 })
+    × (l.kws ≡ in_places 32 (l.fn.kw ∷ map (λ c. c.kw) (take (length l.yielded) (leading_down l.couplings l.fn.upper))))
+    × (l.mwhs ≡ in_places 32 (l.fn.mwh ∷ map (λ c. c.mwh) (take (length l.yielded) (leading_down l.couplings l.fn.upper))))
