@@ -8,7 +8,8 @@ use crate::systems::count_below;
 use passing::MOST_TAKERS;
 use year_model::Coupling;
 
-// Taker 0 is the system's consumers, then come its couplings in order of entry; places past the takers hold 0.
+// Taker 0 is the system's consumers, then come its couplings in order of entry; places past the takers hold 0. Two arrays with a
+// count, since a pass takes two lists of weights and none of the year's calls allocates.
 #[derive(Clone, Copy)]
 pub struct Takers {
     pub count: usize,
