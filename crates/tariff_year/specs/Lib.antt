@@ -1,4 +1,5 @@
 pub mod Books
+pub mod Called
 pub mod Fixable
 pub mod Lines
 pub mod LookedUp

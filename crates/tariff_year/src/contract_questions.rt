@@ -6,7 +6,6 @@ ghost use Rattle.year_model.specs.Bills.{plain_rate};
 ghost use Rattle.year_model.specs.State.{view};
 ghost use Rattle.tariff_year.specs.Lines.{Billable};
 ghost use Rattle.tariff_year.specs.Questions.{asked, contract_month, metering_asked, month_asked, portions_asked};
-ghost use Rattle.tariff_year.specs.Years.{makings};
 
 use crate::bills::tariff;
 use crate::look_up::bound;
@@ -48,6 +47,8 @@ pub struct ContractMonth {
 }
 
 impl<E: Edition + Drop, R: SharingRule + Drop> TariffYear<E, R> {
+    ghost use Rattle.tariff_year.specs.Called.{made_of};
+
     // The record of a contract.
     pub fn contract_record(&self, number: u64) -> Result<Contract, Refusal>
         ensures { result ≡ asked (view self.now.tables).contracts number }
@@ -85,7 +86,7 @@ impl<E: Edition + Drop, R: SharingRule + Drop> TariffYear<E, R> {
 
     // A month of a contract: its days, and how its portion is shared over them.
     pub fn month_of_contract(&self, number: u64, month: u64) -> Result<ContractMonth, Refusal>
-        ensures { result ≡ month_asked (makings E.Edition R.SharingRule self.now.basis) (view self.now.tables) number month }
+        ensures { result ≡ month_asked (made_of self.now) (view self.now.tables) number month }
     {
         bound(1, number, LARGEST_NUMBER)?;
         if !(1..=12).contains(&month) {
@@ -97,7 +98,7 @@ impl<E: Edition + Drop, R: SharingRule + Drop> TariffYear<E, R> {
 
     fn shared_month(&self, contract: Contract, month: u64) -> ContractMonth
         requires { Billable self.now.basis.calendar.year contract month }
-        ensures { result ≡ contract_month (makings E.Edition R.SharingRule self.now.basis) month contract }
+        ensures { result ≡ contract_month (made_of self.now) month contract }
     {
         let (portion, (before, within, after)) = self.month_to_share(contract, month);
         let cents = share_out::<R, 3>(&self.basis.rule, portion, &[before, within, after]).unwrap();

@@ -9,7 +9,7 @@ ghost use Rattle.year_model.specs.State.{view};
 ghost use Rattle.year_model.specs.contracts.tables.Contract.{the_row as contract_row};
 ghost use Rattle.year_model.specs.contracts.tables.Tables.{the_row};
 ghost use Rattle.tariff_year.specs.Told.{Back, OthersStay, told_bill, told_draft, told_torn};
-ghost use Rattle.tariff_year.specs.Years.{Did, makings, told_number};
+ghost use Rattle.tariff_year.specs.Years.{told_number};
 
 use crate::bills::{bill_month, metered_lines};
 use crate::drafts::{Bill, Draft, Unspent};
@@ -23,6 +23,8 @@ use sharing::SharingRule;
 use year_model::{Cents, Contract, Started, Tables};
 
 impl<E: Edition + Drop, R: SharingRule + Drop> TariffYear<E, R> {
+    ghost use Rattle.tariff_year.specs.Called.{Called, made_of};
+
     // A contract at a fixed system, from a first to a last date; answers its number.
     pub fn contract(
         &mut self,
@@ -33,8 +35,7 @@ impl<E: Edition + Drop, R: SharingRule + Drop> TariffYear<E, R> {
         last: u64,
         reading: u64,
     ) -> Result<u64, Refusal>
-        ensures did { Did (makings E.Edition R.SharingRule self.old.basis) (view self.old.tables) (call_contract system kw fee first last reading) (told_number result) (view self.new.tables) }
-        ensures kept { self.new.basis ≡ self.old.basis }
+        ensures { Called self.old (call_contract system kw fee first last reading) (told_number result) self.new }
     {
         bound(1, system, LARGEST_NUMBER)?;
         bound(2, kw, LARGEST_KW)?;
@@ -78,9 +79,8 @@ impl<E: Edition + Drop, R: SharingRule + Drop> TariffYear<E, R> {
 
     // A draft of the next month's bill of a contract, with the month's kWmax and reading.
     pub fn start(&mut self, contract: u64, kwmax: u64, reading: u64) -> Result<Draft, Refusal>
-        ensures did { Did (makings E.Edition R.SharingRule self.old.basis) (view self.old.tables) (call_start contract kwmax reading) (told_draft result) (view self.new.tables) }
-        ensures kept { self.new.basis ≡ self.old.basis }
-        ensures ready { IfOk result (λ d. spendable (makings E.Edition R.SharingRule self.old.basis) (view self.new.tables) d.book d.contract d.month ≡ true) }
+        ensures called { Called self.old (call_start contract kwmax reading) (told_draft result) self.new }
+        ensures ready { IfOk result (λ d. spendable (made_of self.old) (view self.new.tables) d.book d.contract d.month ≡ true) }
     {
         bound(1, contract, LARGEST_NUMBER)?;
         bound(2, kwmax, LARGEST_KW)?;
@@ -106,10 +106,9 @@ impl<E: Edition + Drop, R: SharingRule + Drop> TariffYear<E, R> {
 
     // Bills the month of a draft that is out.
     pub fn issue(&mut self, draft: Draft) -> Result<Bill, Unspent>
-        ensures did { Did (makings E.Edition R.SharingRule self.old.basis) (view self.old.tables) (call_issue draft.book draft.contract draft.month) (told_bill result) (view self.new.tables) }
-        ensures kept { self.new.basis ≡ self.old.basis }
+        ensures called { Called self.old (call_issue draft.book draft.contract draft.month) (told_bill result) self.new }
         ensures back { Back draft result }
-        ensures accepts { spendable (makings E.Edition R.SharingRule self.old.basis) (view self.old.tables) draft.book draft.contract draft.month ≡ true → is_ok result ≡ true }
+        ensures accepts { spendable (made_of self.old) (view self.old.tables) draft.book draft.contract draft.month ≡ true → is_ok result ≡ true }
         ensures own { OthersStay draft.contract (view self.old.tables) (view self.new.tables) }
     {
         // No `ok_or`, which would move the draft before it is known to be refused.
@@ -144,10 +143,9 @@ impl<E: Edition + Drop, R: SharingRule + Drop> TariffYear<E, R> {
 
     // Discards a draft that is out.
     pub fn tear(&mut self, draft: Draft) -> Result<(), Unspent>
-        ensures did { Did (makings E.Edition R.SharingRule self.old.basis) (view self.old.tables) (call_tear draft.book draft.contract draft.month) (told_torn result) (view self.new.tables) }
-        ensures kept { self.new.basis ≡ self.old.basis }
+        ensures called { Called self.old (call_tear draft.book draft.contract draft.month) (told_torn result) self.new }
         ensures back { Back draft result }
-        ensures accepts { spendable (makings E.Edition R.SharingRule self.old.basis) (view self.old.tables) draft.book draft.contract draft.month ≡ true → is_ok result ≡ true }
+        ensures accepts { spendable (made_of self.old) (view self.old.tables) draft.book draft.contract draft.month ≡ true → is_ok result ≡ true }
     {
         // As in `issue`.
         let Some(_) = self.draft_out(&draft) else {
@@ -167,7 +165,7 @@ impl<E: Edition + Drop, R: SharingRule + Drop> TariffYear<E, R> {
 
     // The contract of a draft that is out, and what it was started with.
     fn draft_out(&self, draft: &Draft) -> Option<(Contract, Started)>
-        ensures { result ≡ draft_out (makings E.Edition R.SharingRule self.now.basis) (view self.now.tables) draft.now.book draft.now.contract draft.now.month }
+        ensures { result ≡ draft_out (made_of self.now) (view self.now.tables) draft.now.book draft.now.contract draft.now.month }
     {
         if draft.book != self.basis.book {
             return None;

@@ -5,7 +5,7 @@ ghost use Rattle.year_model.specs.Fixes.{is_unfixed};
 ghost use Rattle.year_model.specs.State.{numbered, view};
 ghost use Rattle.tariff_year.specs.Fixable.{Fixable};
 ghost use Rattle.tariff_year.specs.Questions.{asked_fixing};
-ghost use Rattle.tariff_year.specs.Years.{Did, makings, told_tariffs};
+ghost use Rattle.tariff_year.specs.Years.{told_tariffs};
 
 use crate::look_up::{bound, entry, unfixed};
 use crate::questions::found;
@@ -23,10 +23,11 @@ pub struct Fixed {
 }
 
 impl<E: Edition + Drop, R: SharingRule + Drop> TariffYear<E, R> {
+    ghost use Rattle.tariff_year.specs.Called.{Called};
+
     // Cuts the landed euros of a system over the four carriers, by their volumes; answers the tariffs.
     pub fn fix(&mut self, system: u64, volumes: [u64; CARRIERS]) -> Result<Fixed, Refusal>
-        ensures did { Did (makings E.Edition R.SharingRule self.old.basis) (view self.old.tables) (call_fix system (slice_index volumes 0) (slice_index volumes 1) (slice_index volumes 2) (slice_index volumes 3)) (told_tariffs result) (view self.new.tables) }
-        ensures kept { self.new.basis ≡ self.old.basis }
+        ensures { Called self.old (call_fix system (slice_index volumes 0) (slice_index volumes 1) (slice_index volumes 2) (slice_index volumes 3)) (told_tariffs result) self.new }
     {
         bound(1, system, LARGEST_NUMBER)?;
         bound(2, volumes[0], LARGEST_NUMBER)?;
@@ -49,8 +50,7 @@ impl<E: Edition + Drop, R: SharingRule + Drop> TariffYear<E, R> {
         volumes: &[u64; CARRIERS],
     ) -> Result<Fixed, Refusal>
         requires { Fixable (view self.old.tables) system volumes.now old }
-        ensures did { Did (makings E.Edition R.SharingRule self.old.basis) (view self.old.tables) (call_fix system (slice_index volumes.now 0) (slice_index volumes.now 1) (slice_index volumes.now 2) (slice_index volumes.now 3)) (told_tariffs result) (view self.new.tables) }
-        ensures kept { self.new.basis ≡ self.old.basis }
+        ensures { Called self.old (call_fix system (slice_index volumes.now 0) (slice_index volumes.now 1) (slice_index volumes.now 2) (slice_index volumes.now 3)) (told_tariffs result) self.new }
     {
         let row = percentages(&self.basis.edition, old.category)?;
         let fixing = work_out_fixing(&self.basis.rule, old.landed, &row, volumes)?;

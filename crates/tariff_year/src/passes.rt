@@ -5,7 +5,6 @@ ghost use Rattle.year_model.specs.Passes.{first_obstacle, in_the_way, landed_in_
 ghost use Rattle.year_model.specs.State.{is_fixed, numbered, view};
 ghost use Rattle.tariff_year.specs.Replies.{emptied_by, pass_of, told_passed, told_settled, unless};
 ghost use Rattle.tariff_year.specs.Turns.{turn_of, turns};
-ghost use Rattle.tariff_year.specs.Years.{Did, makings};
 
 use crate::handing::hand_down;
 use crate::look_up::{bound, entry, unfixed};
@@ -40,10 +39,11 @@ struct Emptied {
 }
 
 impl<E: Edition + Drop, R: SharingRule + Drop> TariffYear<E, R> {
+    ghost use Rattle.tariff_year.specs.Called.{Called, made_of};
+
     // Empties a system: what stands there lands with its consumers and goes down its couplings.
     pub fn pass(&mut self, system: u64) -> Result<Passed, Refusal>
-        ensures did { Did (makings E.Edition R.SharingRule self.old.basis) (view self.old.tables) (call_pass system) (told_passed result) (view self.new.tables) }
-        ensures kept { self.new.basis ≡ self.old.basis }
+        ensures { Called self.old (call_pass system) (told_passed result) self.new }
     {
         bound(1, system, LARGEST_NUMBER)?;
         let old = unfixed(&self.tables.systems, system)?;
@@ -56,7 +56,7 @@ impl<E: Edition + Drop, R: SharingRule + Drop> TariffYear<E, R> {
     // What a pass of this system comes to, or what stands in its way.
     fn work_out(&self, number: u64, system: System) -> Result<Pass, Refusal>
         requires { numbered (view self.now.tables).systems number ≡ Some system }
-        ensures pinned { result ≡ unless (in_the_way (makings E.Edition R.SharingRule self.now.basis) (view self.now.tables) number system) (pass_of (makings E.Edition R.SharingRule self.now.basis) (view self.now.tables) number system) }
+        ensures pinned { result ≡ unless (in_the_way (made_of self.now) (view self.now.tables) number system) (pass_of (made_of self.now) (view self.now.tables) number system) }
         ensures nothing_is_lost { IfOk result (λ pass. sum pass.received ≡ system.standing) }
     {
         let takers = gather(&self.tables.couplings, number, system.kw, system.mwh);
@@ -76,9 +76,9 @@ impl<E: Edition + Drop, R: SharingRule + Drop> TariffYear<E, R> {
     fn empty(&mut self, number: u64, system: System) -> Result<Emptied, Refusal>
         requires found { numbered (view self.old.tables).systems number ≡ Some system }
         requires unfixed { is_fixed system ≡ false }
-        ensures told { result ≡ unless (in_the_way (makings E.Edition R.SharingRule self.old.basis) (view self.old.tables) number system) (emptied_by (makings E.Edition R.SharingRule self.old.basis) (view self.old.tables) number system) }
+        ensures told { result ≡ unless (in_the_way (made_of self.old) (view self.old.tables) number system) (emptied_by (made_of self.old) (view self.old.tables) number system) }
         ensures small { IfOk result (λ emptied. emptied.landed ≤ 5_000_000_000) }
-        ensures state { view self.new.tables ≡ state_of (view self.old.tables) (pass_with (makings E.Edition R.SharingRule self.old.basis) (view self.old.tables) number system (in_the_way (makings E.Edition R.SharingRule self.old.basis) (view self.old.tables) number system)) }
+        ensures state { view self.new.tables ≡ state_of (view self.old.tables) (pass_with (made_of self.old) (view self.old.tables) number system (in_the_way (made_of self.old) (view self.old.tables) number system)) }
         ensures kept { self.new.basis ≡ self.old.basis }
     {
         let pass = self.work_out(number, system)?;
@@ -102,8 +102,7 @@ impl<E: Edition + Drop, R: SharingRule + Drop> TariffYear<E, R> {
 
     // Passes every unfixed system once, by level and then by number, unless something stands in the way of one.
     pub fn settle(&mut self) -> Result<Settled, Refusal>
-        ensures did { Did (makings E.Edition R.SharingRule self.old.basis) (view self.old.tables) call_settle (told_settled result) (view self.new.tables) }
-        ensures kept { self.new.basis ≡ self.old.basis }
+        ensures { Called self.old call_settle (told_settled result) self.new }
     {
         if let Some(refusal) = self.first_in_the_way() {
             return Err(refusal);
@@ -117,17 +116,17 @@ impl<E: Edition + Drop, R: SharingRule + Drop> TariffYear<E, R> {
 
     // What stands in the way of passing the first unfixed system that cannot be passed.
     fn first_in_the_way(&self) -> Option<Refusal>
-        ensures { result ≡ first_obstacle (makings E.Edition R.SharingRule self.now.basis) (view self.now.tables) (numbers (view self.now.tables)) }
+        ensures { result ≡ first_obstacle (made_of self.now) (view self.now.tables) (numbers (view self.now.tables)) }
     {
         first_obstacle(R::LONGEST, &self.tables.systems, &self.tables.couplings)
     }
 
     // Passes every unfixed system of this level, by number; answers the euros that landed.
     fn settle_level(&mut self, level: u64) -> Result<u64, Refusal>
-        requires { first_obstacle (makings E.Edition R.SharingRule self.old.basis) (view self.old.tables) (numbers (view self.old.tables)) ≡ None }
-        ensures told { result ≡ Ok (landed_in_turn (makings E.Edition R.SharingRule self.old.basis) (view self.old.tables) (turns (view self.old.tables) level)) }
+        requires { first_obstacle (made_of self.old) (view self.old.tables) (numbers (view self.old.tables)) ≡ None }
+        ensures told { result ≡ Ok (landed_in_turn (made_of self.old) (view self.old.tables) (turns (view self.old.tables) level)) }
         ensures small { IfOk result (λ landed. landed ≤ 320_000_000_000) }
-        ensures state { view self.new.tables ≡ passed_in_turn (makings E.Edition R.SharingRule self.old.basis) (view self.old.tables) (turns (view self.old.tables) level) }
+        ensures state { view self.new.tables ≡ passed_in_turn (made_of self.old) (view self.old.tables) (turns (view self.old.tables) level) }
         ensures kept { self.new.basis ≡ self.old.basis }
     {
         let mut landed = 0;
@@ -140,10 +139,10 @@ impl<E: Edition + Drop, R: SharingRule + Drop> TariffYear<E, R> {
 
     // Passes this system if it is unfixed and of this level; answers the euros that landed.
     fn settle_system(&mut self, level: u64, number: u64) -> Result<u64, Refusal>
-        requires { first_obstacle (makings E.Edition R.SharingRule self.old.basis) (view self.old.tables) (numbers (view self.old.tables)) ≡ None }
-        ensures told { result ≡ Ok (landed_in_turn (makings E.Edition R.SharingRule self.old.basis) (view self.old.tables) (turn_of (view self.old.tables) level number)) }
+        requires { first_obstacle (made_of self.old) (view self.old.tables) (numbers (view self.old.tables)) ≡ None }
+        ensures told { result ≡ Ok (landed_in_turn (made_of self.old) (view self.old.tables) (turn_of (view self.old.tables) level number)) }
         ensures small { IfOk result (λ landed. landed ≤ 5_000_000_000) }
-        ensures state { view self.new.tables ≡ passed_in_turn (makings E.Edition R.SharingRule self.old.basis) (view self.old.tables) (turn_of (view self.old.tables) level number) }
+        ensures state { view self.new.tables ≡ passed_in_turn (made_of self.old) (view self.old.tables) (turn_of (view self.old.tables) level number) }
         ensures kept { self.new.basis ≡ self.old.basis }
     {
         let Some(system) = entry(&self.tables.systems, number) else {

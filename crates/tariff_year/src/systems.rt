@@ -3,7 +3,7 @@ ghost use Rattle.std.specs.Prelude.{◌≡◌};
 ghost use Rattle.year_model.specs.Calls.{call_cost, call_couple, call_open, call_take_back, call_use};
 ghost use Rattle.year_model.specs.State.{view};
 ghost use Rattle.year_model.specs.Systems.{below_count, joining_count};
-ghost use Rattle.tariff_year.specs.Years.{Did, makings, told_number};
+ghost use Rattle.tariff_year.specs.Years.{told_number};
 
 use crate::look_up::{bound, listed, unfixed};
 use crate::year::{MOST_COUPLINGS, MOST_SYSTEMS, TariffYear};
@@ -24,10 +24,11 @@ pub const LOWEST_LEVEL: u64 = 7;
 const MOST_BELOW: u64 = 31;
 
 impl<E: Edition + Drop, R: SharingRule + Drop> TariffYear<E, R> {
+    ghost use Rattle.tariff_year.specs.Called.{Called};
+
     // One system more at this level and of this category; answers its number.
     pub fn open(&mut self, level: u64, category: u64) -> Result<u64, Refusal>
-        ensures did { Did (makings E.Edition R.SharingRule self.old.basis) (view self.old.tables) (call_open level category) (told_number result) (view self.new.tables) }
-        ensures kept { self.new.basis ≡ self.old.basis }
+        ensures { Called self.old (call_open level category) (told_number result) self.new }
     {
         if !(1..=LOWEST_LEVEL).contains(&level) {
             return Err(Refusal::at(Ground::OutOfBounds, 1));
@@ -57,8 +58,7 @@ impl<E: Edition + Drop, R: SharingRule + Drop> TariffYear<E, R> {
 
     // Joins an upper system to a lower one, with the kW and MWh exchanged; answers the coupling's number.
     pub fn couple(&mut self, upper: u64, lower: u64, kw: u64, mwh: u64) -> Result<u64, Refusal>
-        ensures did { Did (makings E.Edition R.SharingRule self.old.basis) (view self.old.tables) (call_couple upper lower kw mwh) (told_number result) (view self.new.tables) }
-        ensures kept { self.new.basis ≡ self.old.basis }
+        ensures { Called self.old (call_couple upper lower kw mwh) (told_number result) self.new }
     {
         bound(1, upper, LARGEST_NUMBER)?;
         bound(2, lower, LARGEST_NUMBER)?;
@@ -96,8 +96,7 @@ impl<E: Edition + Drop, R: SharingRule + Drop> TariffYear<E, R> {
         mwh: u64,
         permille: u64,
     ) -> Result<u64, Refusal>
-        ensures did { Did (makings E.Edition R.SharingRule self.old.basis) (view self.old.tables) (call_use system kw mwh permille) (told_number result) (view self.new.tables) }
-        ensures kept { self.new.basis ≡ self.old.basis }
+        ensures { Called self.old (call_use system kw mwh permille) (told_number result) self.new }
     {
         bound(1, system, LARGEST_NUMBER)?;
         bound(2, kw, LARGEST_FLOW)?;
@@ -115,8 +114,7 @@ impl<E: Edition + Drop, R: SharingRule + Drop> TariffYear<E, R> {
 
     // Adds euros to those standing at a system; answers the euros now standing.
     pub fn cost(&mut self, system: u64, euros: u64) -> Result<u64, Refusal>
-        ensures did { Did (makings E.Edition R.SharingRule self.old.basis) (view self.old.tables) (call_cost system euros) (told_number result) (view self.new.tables) }
-        ensures kept { self.new.basis ≡ self.old.basis }
+        ensures { Called self.old (call_cost system euros) (told_number result) self.new }
     {
         bound(1, system, LARGEST_NUMBER)?;
         bound(2, euros, LARGEST_AMOUNT)?;
@@ -133,8 +131,7 @@ impl<E: Edition + Drop, R: SharingRule + Drop> TariffYear<E, R> {
 
     // Removes euros that stand at a system; answers the euros still standing.
     pub fn take_back(&mut self, system: u64, euros: u64) -> Result<u64, Refusal>
-        ensures did { Did (makings E.Edition R.SharingRule self.old.basis) (view self.old.tables) (call_take_back system euros) (told_number result) (view self.new.tables) }
-        ensures kept { self.new.basis ≡ self.old.basis }
+        ensures { Called self.old (call_take_back system euros) (told_number result) self.new }
     {
         bound(1, system, LARGEST_NUMBER)?;
         bound(2, euros, LARGEST_AMOUNT)?;

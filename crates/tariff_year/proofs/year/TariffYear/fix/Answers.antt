@@ -10,8 +10,8 @@ use Rattle.tariff_year.proofs.Entries.{here_from_slice}
 use Rattle.tariff_year.proofs.FixCalls.{fix_of_none, fix_unsettled}
 use Rattle.tariff_year.proofs.year.TariffYear.fix.Goals as goal
 
-pub returns-in_err-old-clause-did : goal.returns-in_err-old-clause-did
-returns-in_err-old-clause-did g c =
+pub returns-in_err-old : goal.returns-in_err-old
+returns-in_err-old g c =
     let old = c.args.self.now in
     let m = makings g.E.Edition g.R.SharingRule old.basis in
     let s = view old.tables in
@@ -23,10 +23,10 @@ returns-in_err-old-clause-did g c =
     c.in_ok-bound.ensures.within c.in_ok-bound-2.ensures.within c.in_ok-bound-3.ensures.within c.in_ok-bound-4.ensures.within c.in_ok-bound-5.ensures.within e told in
     let replied = ap reply_of came in
     let stays = ap (state_of s) came in
-    record { answered = search (rules, replied); state = search (rules, stays) }
+    record { did = record { answered = search (rules, replied); state = search (rules, stays) }; kept = search rules }
 
-pub returns-then-old-gt0-clause-did : goal.returns-then-old-gt0-clause-did
-returns-then-old-gt0-clause-did g c =
+pub returns-then-old-gt0 : goal.returns-then-old-gt0
+returns-then-old-gt0 g c =
     let old = c.args.self.now in
     let m = makings g.E.Edition g.R.SharingRule old.basis in
     let s = view old.tables in
@@ -43,4 +43,4 @@ returns-then-old-gt0-clause-did g c =
     x (here_from_slice _ _ n x c.deref.ensures.value c.in_ok-old.ensures.there) c.in_ok-old.ensures.not_fixed unsettled in
     let replied = ap reply_of came in
     let stays = ap (state_of s) came in
-    record { answered = search (rules, replied); state = search (rules, stays) }
+    record { did = record { answered = search (rules, replied); state = search (rules, stays) }; kept = search rules }

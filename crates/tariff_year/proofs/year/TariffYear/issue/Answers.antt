@@ -121,4 +121,4 @@ returns g c =
     let place = c.contract_mut.result.now in
     let same : place ≡ k = c.contract_mut.ensures.value ∙ out.entry.here place in
     let did = draft_issued m s draft.book draft.contract draft.month k d (sym c.in-Some.ensures) place same c.unwrap-lines.result c.month_cents-cents.result lines c.month_cents-cents.ensures c.bill_month.new.contract c.bill_month.ensures in
-    record { did = did; kept = refl; back = tt; accepts = λ _. refl; own = others_stay s draft.contract c.bill_month.new.contract out.entry.low }
+    record { called = record { did = did; kept = refl }; back = tt; accepts = λ _. refl; own = others_stay s draft.contract c.bill_month.new.contract out.entry.low }

@@ -48,8 +48,7 @@ returns-in_err-metered_lines g c =
     let e = c.in_err-metered_lines.field-0.0 in
     let is : told_draft c.from_residual-in_err-metered_lines.result ≡ Err e = ap told_draft p.1 ∙ ap (λ (r : Refusal). Err r) p.2 in
     record {
-      did = start_refused m s c.args.contract c.args.kwmax c.args.reading k ok e c.in_err-metered_lines.ensures (told_draft c.from_residual-in_err-metered_lines.result) is;
-      kept = refl;
+      called = record { did = start_refused m s c.args.contract c.args.kwmax c.args.reading k ok e c.in_err-metered_lines.ensures (told_draft c.from_residual-in_err-metered_lines.result) is; kept = refl };
       ready = rw p.1 tt;
     }
 
@@ -96,4 +95,4 @@ returns g c =
     let at = entry_from_numbered s.contracts c.args.contract k ok.found in
     let same : place ≡ k = c.contract_mut.ensures.value ∙ at.here place in
     let did = draft_started m s c.args.contract c.args.kwmax c.args.reading k ok place same c.in_ok-metered_lines.field-0 c.in_ok-metered_lines.ensures in
-    record { did = did; kept = refl; ready = draft_ready m s c.args.contract c.args.kwmax c.args.reading k ok place same }
+    record { called = record { did = did; kept = refl }; ready = draft_ready m s c.args.contract c.args.kwmax c.args.reading k ok place same }

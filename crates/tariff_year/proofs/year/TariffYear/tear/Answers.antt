@@ -48,4 +48,4 @@ returns g c =
     let place = c.contract_mut.result.now in
     let same : place ≡ k = c.contract_mut.ensures.value ∙ out.entry.here place in
     let did = draft_torn m s draft.book draft.contract draft.month k d (sym c.in-Some.ensures) place same in
-    record { did = did; kept = refl; back = tt; accepts = λ _. refl }
+    record { called = record { did = did; kept = refl }; back = tt; accepts = λ _. refl }
