@@ -6,7 +6,7 @@ use Rattle.refusal.specs.declared.refusal.Refusal.{Refusal}
 use Rattle.rows.specs.Lines.{left_by, write_answer}
 use Rattle.rows.specs.Told.{answer_bytes, answer_numbers}
 use Rattle.rows.specs.declared.answer.AnswerRow.{AnswerRow}
-use Rattle.page.specs.Runs.{Run, next_answer, over, run_behind}
+use Rattle.page.specs.Runs.{Run, next_answer, run_behind, run_wanting}
 use Rattle.page.specs.declared.error.PageError.{PageError}
 use Rattle.page.specs.declared.error.PageError.TheVariants.{Refused, NoMemory}
 
@@ -36,10 +36,10 @@ pub record Answered (before later : Run) (old new : List ℕ) (told : Result ℕ
   pub buffer : new ≡ with_room (length old) old (buffer_behind (next_answer before) (length_told (length old) (next_answer before)) old)
   pub behind : later ≡ with_room (length old) before (run_behind before)
 
--- There was no memory for the year: nothing is written, and the run is over.
-pub record OutOfMemory (later : Run) (old new : List ℕ) : Type 0 where
+-- There was no memory for the year: nothing is written, and the run is over behind its first row.
+pub record OutOfMemory (before later : Run) (old new : List ℕ) : Type 0 where
   pub buffer : new ≡ old
-  pub stands : later.stands ≡ over
+  pub wanting : later ≡ run_wanting before
 
 -- What holds where the memory was there, and what where it was not.
 abbrev pub ByMemory : Result ℕ PageError → Type 0 → Type 0 → Type 0

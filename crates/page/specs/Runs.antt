@@ -1,7 +1,7 @@
 -- The run of a page against a year, row by row.
 use Rattle.std.specs.Prelude.{◌≡◌, ℕ, ◌+◌, cond, List, [], ◌∷◌, length, Some, None, Ok, Err, Option, Result, nat_lt}
 use Rattle.refusal.specs.declared.refusal.Refusal.{Refusal}
-use Rattle.rows.specs.Judged.{number_behind, rows_behind}
+use Rattle.rows.specs.Judged.{behind, number_behind, rows_behind}
 use Rattle.rows.specs.Pages.{Reading, unread}
 use Rattle.rows.specs.Told.{fault_answer}
 use Rattle.rows.specs.declared.answer.AnswerRow.{AnswerRow}
@@ -98,6 +98,10 @@ run_behind run =
     let row : ℕ = run.reading.row in
     let rows : List (List ℕ) = run.reading.left in
     run_at (standing_behind run.stands (row + 1) rows) (record { row = row_behind run.stands row rows; left = rows_left run.stands rows })
+
+-- the run whose year could not be made for want of memory: it is over, and its first row is read
+abbrev pub run_wanting : Run → Run
+run_wanting run = run_at over (behind run.reading)
 
 -- A run came from one to the other with this answer.
 pub record Went (before later : Run) (answer : Option AnswerRow) : Type 0 where

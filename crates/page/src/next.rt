@@ -25,7 +25,7 @@ impl<'a> Page<'a> {
     // Answers the next row: writes its answer row at the front of the buffer, and answers its length, or 0 where no row is
     // left. A buffer under 62 bytes is refused before anything is done or written.
     pub fn answer_next(&mut self, heap: Global, buffer: &mut [u8]) -> Result<usize, PageError>
-        ensures answered { ByMemory result (Answered self.old self.new buffer.old buffer.new result) (OutOfMemory self.new buffer.old buffer.new) }
+        ensures answered { ByMemory result (Answered self.old self.new buffer.old buffer.new result) (OutOfMemory self.old self.new buffer.old buffer.new) }
         ensures within { IfOk result (λ size. size ≤ length buffer.old) }
         ensures fewer { IfOk result (λ size. 0 < size → most_answers self.new < most_answers self.old) }
     {

@@ -3,7 +3,7 @@ ghost use Rattle.std.specs.Prelude.{◌≡◌, ◌+◌, length, IfOk, MatchResul
 ghost use Rattle.std.specs.Result.{result_map_both};
 ghost use Rattle.rows.specs.Judged.{behind};
 ghost use Rattle.page.specs.First.{year_row};
-ghost use Rattle.page.specs.Runs.{Went, begun_with, next_answered, next_behind, over, run_at, run_new, standing, standing_new};
+ghost use Rattle.page.specs.Runs.{Went, begun_with, next_answered, next_behind, run_new, run_wanting, standing, standing_new};
 
 use crate::first::read_first;
 use crate::year::PageYear;
@@ -93,7 +93,7 @@ impl<'a> Page<'a> {
 
     // The next answer row, or None where the run has no more; where the year cannot be made for want of memory, the run is over.
     pub(crate) fn advance(&mut self, heap: Global) -> Result<Option<AnswerRow>, AllocError>
-        ensures { MatchResult result (λ answer. Went self.old self.new answer) (λ _. self.new.stands ≡ over) }
+        ensures { MatchResult result (λ answer. Went self.old self.new answer) (λ _. self.new ≡ run_wanting self.old) }
     {
         match &mut self.stage {
             Stage::Refused => {
