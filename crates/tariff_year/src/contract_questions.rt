@@ -8,12 +8,12 @@ ghost use Rattle.tariff_year.specs.Lines.{Billable};
 ghost use Rattle.tariff_year.specs.Questions.{asked, contract_month, metering_asked, month_asked, portions_asked};
 
 use crate::bills::tariff;
-use crate::look_up::bound;
+use crate::look_up::{bound, bound_from_1};
 use crate::questions::found;
 use crate::year::TariffYear;
 use billing::{LARGEST_NUMBER, Rate, metered_line};
 use edition::{Carrier, Edition};
-use refusal::{Ground, Refusal};
+use refusal::Refusal;
 use sharing::{SharingRule, share_out};
 use year_model::Contract;
 
@@ -89,9 +89,7 @@ impl<E: Edition + Drop, R: SharingRule + Drop> TariffYear<E, R> {
         ensures { result ≡ month_asked (made_of self.now) (view self.now.tables) number month }
     {
         bound(1, number, LARGEST_NUMBER)?;
-        if !(1..=12).contains(&month) {
-            return Err(Refusal::at(Ground::OutOfBounds, 2));
-        }
+        bound_from_1(2, month, 12)?;
         let contract = self.contract_record(number)?;
         Ok(self.shared_month(contract, month))
     }

@@ -95,8 +95,9 @@ impl<E: Edition + Drop, R: SharingRule + Drop> TariffYear<E, R> {
         if reading < found.reading {
             return Err(Refusal::of(Ground::ReadingFell));
         }
-        metered_lines(&self.tables, found, kwmax, reading)?;
-        contract_mut(&mut self.tables, contract).started = Some(Started { kwmax, reading });
+        let started = Started { kwmax, reading };
+        metered_lines(&self.tables, found, started)?;
+        contract_mut(&mut self.tables, contract).started = Some(started);
         Ok(Draft {
             book: self.basis.book,
             contract,
@@ -123,7 +124,7 @@ impl<E: Edition + Drop, R: SharingRule + Drop> TariffYear<E, R> {
             contract,
             month,
         } = draft;
-        let lines = metered_lines(&self.tables, found, started.kwmax, started.reading).unwrap();
+        let lines = metered_lines(&self.tables, found, started).unwrap();
         let cents = self.month_cents(found, month);
         bill_month(
             contract_mut(&mut self.tables, contract),

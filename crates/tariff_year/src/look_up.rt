@@ -1,7 +1,7 @@
 // Arguments and entries of a call: what is out of bounds, not there or fixed is refused.
 ghost use Rattle.std.specs.Prelude.{◌≡◌, ◌<◌, ◌≤◌, IfOk, IfErr, Some, None, false};
 ghost use Rattle.year_model.specs.State.{is_fixed, numbered};
-ghost use Rattle.tariff_year.specs.LookedUp.{bounded, told_entry, unfixed};
+ghost use Rattle.tariff_year.specs.LookedUp.{bounded, bounded_from_1, told_entry, unfixed};
 
 use refusal::{Ground, Refusal};
 use year_model::System;
@@ -13,6 +13,17 @@ pub fn bound(place: u64, number: u64, limit: u64) -> Result<(), Refusal>
     ensures above { IfErr result (λ _. limit < number) }
 {
     if number > limit {
+        return Err(Refusal::at(Ground::OutOfBounds, place));
+    }
+    Ok(())
+}
+
+// Refuses a number that is none of 1 to the last, by the place of the argument.
+pub fn bound_from_1(place: u64, number: u64, last: u64) -> Result<(), Refusal>
+    ensures told { result ≡ bounded_from_1 place number last }
+    ensures within { IfOk result (λ _. (1 ≤ number) × (number ≤ last)) }
+{
+    if !(1..=last).contains(&number) {
         return Err(Refusal::at(Ground::OutOfBounds, place));
     }
     Ok(())

@@ -5,7 +5,7 @@ ghost use Rattle.year_model.specs.State.{view};
 ghost use Rattle.year_model.specs.Systems.{below_count, joining_count};
 ghost use Rattle.tariff_year.specs.Years.{told_number};
 
-use crate::look_up::{bound, listed, unfixed};
+use crate::look_up::{bound, bound_from_1, listed, unfixed};
 use crate::year::{MOST_COUPLINGS, MOST_SYSTEMS, TariffYear};
 use billing::LARGEST_NUMBER;
 use edition::Edition;
@@ -30,12 +30,8 @@ impl<E: Edition + Drop, R: SharingRule + Drop> TariffYear<E, R> {
     pub fn open(&mut self, level: u64, category: u64) -> Result<u64, Refusal>
         ensures { Called self.old (call_open level category) (told_number result) self.new }
     {
-        if !(1..=LOWEST_LEVEL).contains(&level) {
-            return Err(Refusal::at(Ground::OutOfBounds, 1));
-        }
-        if !(1..=LARGEST_CATEGORY).contains(&category) {
-            return Err(Refusal::at(Ground::OutOfBounds, 2));
-        }
+        bound_from_1(1, level, LOWEST_LEVEL)?;
+        bound_from_1(2, category, LARGEST_CATEGORY)?;
         if !self.basis.edition.knows(category) {
             return Err(Refusal::of(Ground::UnknownCategory));
         }
