@@ -11,7 +11,7 @@ use std::array;
 // The largest tariff, in ten-thousandths of a euro.
 pub const LARGEST_TARIFF: u64 = 100_000_000;
 
-// The largest number that ten columns hold.
+// The largest number that ten columns hold. The rows of a page have the same limit of their own, and know nothing of bills.
 pub const LARGEST_NUMBER: u64 = 9_999_999_999;
 
 // Four figures each, carrier 1 first. Tariffs and remainders are in ten-thousandths of a euro.

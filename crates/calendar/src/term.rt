@@ -6,7 +6,8 @@ ghost use Rattle.calendar.specs.Terms.{is_term, split_days, term_answer};
 use crate::year::CalendarYear;
 use refusal::{Ground, Refusal};
 
-// A first and a last date are two numbers here, and no struct: any two are taken, and judged against the year.
+// A first and a last date are two numbers, and no struct: any two are taken and judged against the year, so that a struct
+// would promise nothing of them, and callers have them apart.
 impl CalendarYear {
     // How many days of the month lie before the first date, from the first to the last, and after the last.
     pub fn month_days(self, first: u64, last: u64, month: u64) -> Result<(u64, u64, u64), Refusal>

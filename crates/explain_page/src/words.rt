@@ -23,6 +23,7 @@ fn level_name(level: u64) -> &'static str {
 #[derive(Clone, Copy)]
 struct Date(u64);
 
+// Written out, as the words below are.
 impl fmt::Display for Date {
     fn fmt<W: fmt::Write>(&self, f: &mut fmt::Formatter<W>) -> fmt::Result {
         let month = self.0 / 100;

@@ -12,6 +12,7 @@ pub enum PageError {
     NoMemory,
 }
 
+// Both are written out, since a clause names the error that a `?` makes, of which a derived one says nothing.
 impl From<Refusal> for PageError {
     ghost from_gives = { λ e r. r ≡ Refused e };
 

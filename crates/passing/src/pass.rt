@@ -11,7 +11,7 @@ pub struct Column {
 }
 
 // Taker 0 is the system's consumers, then come its couplings in order of entry; places past the takers hold 0.
-// Arrays of all places with a count beside them, since no pass allocates.
+// Arrays of all places with a count beside them: no pass allocates, and a pass is copied, which no vector is.
 #[derive(Clone, Copy)]
 pub struct Pass {
     pub takers: usize,

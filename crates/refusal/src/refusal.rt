@@ -27,7 +27,7 @@ impl Refusal {
     }
 }
 
-// The number, the place where there is one, and the sentence.
+// The number, the place where there is one, and the sentence. Written out, since a derived one says every field each time.
 impl fmt::Display for Refusal {
     fn fmt<W: fmt::Write>(&self, f: &mut fmt::Formatter<W>) -> fmt::Result {
         let ground = self.ground;

@@ -35,6 +35,7 @@ pub enum PageFault {
     InRow(Numbered<RowFault>),
 }
 
+// This and the next are written out, since clauses name the error that a `?` makes, of which a derived one says nothing.
 impl From<FieldFault> for RowFault {
     ghost from_gives = { λ e r. r ≡ Field e };
 
@@ -101,6 +102,7 @@ impl PageFault {
     }
 }
 
+// So that a `?` tells a fault as its refusal.
 impl From<PageFault> for Refusal {
     ghost from_gives = { λ e r. r ≡ refuse (page_ground e) (page_place e) };
 

@@ -2,7 +2,8 @@
 use billing::Fixing;
 
 // A grid level of the operator, with its consumers' kW and MWh, and where its euros are. Level and category are numbers: levels
-// are compared by rank and passed in turn, and which categories there are is the edition's to say.
+// are compared by rank and passed in turn, so that an enum would be turned into its number at each use, and which categories
+// there are is the edition's to say.
 #[derive(Clone, Copy)]
 pub struct System {
     pub level: u64,
