@@ -12,11 +12,11 @@ use Rattle.tariff_year.specs.declared.drafts.Unspent.{Unspent}
 
 -- the numbers of a draft
 abbrev pub numbers_of : Draft → DraftNumbers
-numbers_of d = record { book = d.book; contract = d.contract; month = d.month }
+numbers_of d = d.numbers
 
 -- the reply that a draft handed out is
 abbrev pub told_draft : Result Draft Refusal → Reply
-told_draft (Ok d) = Ok (d.book ∷ d.contract ∷ d.month ∷ [])
+told_draft (Ok d) = Ok (d.numbers.book ∷ d.numbers.contract ∷ d.numbers.month ∷ [])
 told_draft (Err refusal) = Err refusal
 
 -- the reply that a bill is

@@ -12,7 +12,7 @@ ghost use Rattle.tariff_year.specs.Told.{Back, OthersStay, told_bill, told_draft
 ghost use Rattle.tariff_year.specs.Years.{told_number};
 
 use crate::bills::{bill_month, metered_lines};
-use crate::drafts::{Bill, Draft, Unspent};
+use crate::drafts::{Bill, Draft, DraftNumbers, Unspent};
 use crate::look_up::{bound, entry, listed};
 use crate::year::{MOST_CONTRACTS, TariffYear};
 use billing::{LARGEST_FEE, LARGEST_KW, LARGEST_NUMBER, yearly_charge};
@@ -80,7 +80,7 @@ impl<E: Edition + Drop, R: SharingRule + Drop> TariffYear<E, R> {
     // A draft of the next month's bill of a contract, with the month's kWmax and reading.
     pub fn start(&mut self, contract: u64, kwmax: u64, reading: u64) -> Result<Draft, Refusal>
         ensures called { Called self.old (call_start contract kwmax reading) (told_draft result) self.new }
-        ensures ready { IfOk result (λ d. spendable (made_of self.old) (view self.new.tables) d.book d.contract d.month ≡ true) }
+        ensures ready { IfOk result (λ d. spendable (made_of self.old) (view self.new.tables) d.numbers.book d.numbers.contract d.numbers.month ≡ true) }
     {
         bound(1, contract, LARGEST_NUMBER)?;
         bound(2, kwmax, LARGEST_KW)?;
@@ -99,18 +99,20 @@ impl<E: Edition + Drop, R: SharingRule + Drop> TariffYear<E, R> {
         metered_lines(&self.tables, found, started)?;
         contract_mut(&mut self.tables, contract).started = Some(started);
         Ok(Draft {
-            book: self.basis.book,
-            contract,
-            month: found.month,
+            numbers: DraftNumbers {
+                book: self.basis.book,
+                contract,
+                month: found.month,
+            },
         })
     }
 
     // Bills the month of a draft that is out.
     pub fn issue(&mut self, draft: Draft) -> Result<Bill, Unspent>
-        ensures called { Called self.old (call_issue draft.book draft.contract draft.month) (told_bill result) self.new }
+        ensures called { Called self.old (call_issue draft.numbers.book draft.numbers.contract draft.numbers.month) (told_bill result) self.new }
         ensures back { Back draft result }
-        ensures accepts { spendable (made_of self.old) (view self.old.tables) draft.book draft.contract draft.month ≡ true → is_ok result ≡ true }
-        ensures own { OthersStay draft.contract (view self.old.tables) (view self.new.tables) }
+        ensures accepts { spendable (made_of self.old) (view self.old.tables) draft.numbers.book draft.numbers.contract draft.numbers.month ≡ true → is_ok result ≡ true }
+        ensures own { OthersStay draft.numbers.contract (view self.old.tables) (view self.new.tables) }
     {
         // No `ok_or`, which would move the draft before it is known to be refused.
         let Some((found, started)) = self.draft_out(&draft) else {
@@ -119,22 +121,18 @@ impl<E: Edition + Drop, R: SharingRule + Drop> TariffYear<E, R> {
                 draft,
             });
         };
-        let Draft {
-            book: _,
-            contract,
-            month,
-        } = draft;
+        let Draft { numbers } = draft;
         let lines = metered_lines(&self.tables, found, started).unwrap();
-        let cents = self.month_cents(found, month);
+        let cents = self.month_cents(found, numbers.month);
         bill_month(
-            contract_mut(&mut self.tables, contract),
+            contract_mut(&mut self.tables, numbers.contract),
             started,
             lines,
             cents,
         );
         Ok(Bill {
-            contract,
-            month,
+            contract: numbers.contract,
+            month: numbers.month,
             yearly: cents.issued,
             kwmax: lines.kwmax,
             kwh: lines.kwh,
@@ -144,9 +142,9 @@ impl<E: Edition + Drop, R: SharingRule + Drop> TariffYear<E, R> {
 
     // Discards a draft that is out.
     pub fn tear(&mut self, draft: Draft) -> Result<(), Unspent>
-        ensures called { Called self.old (call_tear draft.book draft.contract draft.month) (told_torn result) self.new }
+        ensures called { Called self.old (call_tear draft.numbers.book draft.numbers.contract draft.numbers.month) (told_torn result) self.new }
         ensures back { Back draft result }
-        ensures accepts { spendable (made_of self.old) (view self.old.tables) draft.book draft.contract draft.month ≡ true → is_ok result ≡ true }
+        ensures accepts { spendable (made_of self.old) (view self.old.tables) draft.numbers.book draft.numbers.contract draft.numbers.month ≡ true → is_ok result ≡ true }
     {
         // As in `issue`.
         let Some(_) = self.draft_out(&draft) else {
@@ -155,25 +153,22 @@ impl<E: Edition + Drop, R: SharingRule + Drop> TariffYear<E, R> {
                 draft,
             });
         };
-        let Draft {
-            book: _,
-            contract,
-            month: _,
-        } = draft;
-        contract_mut(&mut self.tables, contract).started = None;
+        let Draft { numbers } = draft;
+        contract_mut(&mut self.tables, numbers.contract).started = None;
         Ok(())
     }
 
     // The contract of a draft that is out, and what it was started with.
     fn draft_out(&self, draft: &Draft) -> Option<(Contract, Started)>
-        ensures { result ≡ draft_out (made_of self.now) (view self.now.tables) draft.now.book draft.now.contract draft.now.month }
+        ensures { result ≡ draft_out (made_of self.now) (view self.now.tables) draft.now.numbers.book draft.now.numbers.contract draft.now.numbers.month }
     {
-        if draft.book != self.basis.book {
+        let numbers = draft.numbers;
+        if numbers.book != self.basis.book {
             return None;
         }
-        let contract = entry(&self.tables.contracts, draft.contract)?;
+        let contract = entry(&self.tables.contracts, numbers.contract)?;
         let started = contract.started?;
-        if draft.month != contract.month {
+        if numbers.month != contract.month {
             return None;
         }
         Some((contract, started))

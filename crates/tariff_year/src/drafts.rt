@@ -7,12 +7,10 @@ use refusal::Refusal;
 // A token that a year hands out for one month of a contract, and takes back by issue or by tear. It can be neither copied
 // nor dropped.
 pub struct Draft {
-    pub(crate) book: u64,
-    pub(crate) contract: u64,
-    pub(crate) month: u64,
+    pub(crate) numbers: DraftNumbers,
 }
 
-// The numbers that a draft is told by. They can be copied, which a draft cannot, so they are a type of their own.
+// The numbers that a draft is told by, which can be copied.
 #[derive(Clone, Copy)]
 pub struct DraftNumbers {
     pub book: u64,
@@ -41,10 +39,6 @@ impl Draft {
     pub fn numbers(&self) -> DraftNumbers
         ensures { result ≡ numbers_of self.now }
     {
-        DraftNumbers {
-            book: self.book,
-            contract: self.contract,
-            month: self.month,
-        }
+        self.numbers
     }
 }

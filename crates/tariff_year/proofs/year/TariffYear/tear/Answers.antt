@@ -16,7 +16,7 @@ contract_mut-requires g c =
     let k = c.in-Some.field-0.0 in
     let d = c.in-Some.field-0.1 in
     let m = makings g.E.Edition g.R.SharingRule old.basis in
-    let out = out_from_draft m s draft.book draft.contract draft.month (k, d) (sym c.in-Some.ensures) in
+    let out = out_from_draft m s draft.numbers.book draft.numbers.contract draft.numbers.month (k, d) (sym c.in-Some.ensures) in
     (out.entry.low, omega (arith, out.entry.high, old.tables.contracts.ok.0))
 
 pub invariant_of-self : goal.invariant_of-self
@@ -27,13 +27,13 @@ invariant_of-self g c =
     let k = c.in-Some.field-0.0 in
     let d = c.in-Some.field-0.1 in
     let m = makings g.E.Edition g.R.SharingRule old.basis in
-    let out = out_from_draft m s draft.book draft.contract draft.month (k, d) (sym c.in-Some.ensures) in
+    let out = out_from_draft m s draft.numbers.book draft.numbers.contract draft.numbers.month (k, d) (sym c.in-Some.ensures) in
     let place = c.contract_mut.result.now in
     let same : place ≡ k = c.contract_mut.ensures.value ∙ out.entry.here place in
-    let did = draft_torn m s draft.book draft.contract draft.month k d (sym c.in-Some.ensures) place same in
+    let did = draft_torn m s draft.numbers.book draft.numbers.contract draft.numbers.month k d (sym c.in-Some.ensures) place same in
     let law = lawful g.E.Edition g.R.SharingRule old.basis g.met.R.SharingRule.twelve (g.met.R.SharingRule.sharing old.basis.rule) (g.met.E.Edition.hundred old.basis.edition) in
-    let later : State = with_contract s draft.contract (with_draft place None) in
-    let kept = kept_by m law (call_tear draft.book draft.contract draft.month) s later did.state old.sound old.dated old.priced old.known in
+    let later : State = with_contract s draft.numbers.contract (with_draft place None) in
+    let kept = kept_by m law (call_tear draft.numbers.book draft.numbers.contract draft.numbers.month) s later did.state old.sound old.dated old.priced old.known in
     record { roomy = old.roomy; sound = kept.0; dated = kept.1; priced = kept.2; known = kept.3 }
 
 pub returns : goal.returns
@@ -44,8 +44,8 @@ returns g c =
     let k = c.in-Some.field-0.0 in
     let d = c.in-Some.field-0.1 in
     let m = makings g.E.Edition g.R.SharingRule old.basis in
-    let out = out_from_draft m s draft.book draft.contract draft.month (k, d) (sym c.in-Some.ensures) in
+    let out = out_from_draft m s draft.numbers.book draft.numbers.contract draft.numbers.month (k, d) (sym c.in-Some.ensures) in
     let place = c.contract_mut.result.now in
     let same : place ≡ k = c.contract_mut.ensures.value ∙ out.entry.here place in
-    let did = draft_torn m s draft.book draft.contract draft.month k d (sym c.in-Some.ensures) place same in
+    let did = draft_torn m s draft.numbers.book draft.numbers.contract draft.numbers.month k d (sym c.in-Some.ensures) place same in
     record { called = record { did = did; kept = refl }; back = tt; accepts = λ _. refl }
