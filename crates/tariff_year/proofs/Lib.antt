@@ -6,7 +6,6 @@ pub mod DraftSpent
 pub mod DraftStarted
 pub mod Emptying
 pub mod Entries
-pub mod Filling
 pub mod FirstWay
 pub mod FixCalls
 pub mod Gathering

@@ -1,14 +1,12 @@
 -- A pass of a system of a sound year: nothing is out of bounds, so only what stands in the way refuses it.
-use Rattle.std.proofs.Common.{◌≡◌, ℕ, ◌-◌, ◌≤◌, Bool, true, false, cond, ◌||◌, eqb, ltb, List, [], ◌∷◌, map, length, take, replicate, Some, None, Ok, Err, Result, refl, ap, ◌∙◌, arith}
+use Rattle.std.proofs.Common.{◌≡◌, ℕ, ◌≤◌, Bool, true, false, cond, ◌||◌, eqb, ltb, List, [], ◌∷◌, map, length, Some, None, Ok, Err, Result, refl, ap, ◌∙◌, arith}
 use Rattle.std.specs.List.{AllByRecursion as All}
 use Rattle.std.proofs.ByRecursion.{All-from_get_or, all_kept_by, All-map, All-weaker}
-use Rattle.std.proofs.lemmas.List.{take_at}
 use Rattle.std.proofs.lemmas.Bool.{eq-eqb, le-ltb, ne_eqb, not_from_true, or_from}
 use Rattle.refusal.specs.declared.ground.Ground.TheVariants.{ListTooLong, NoWeight, OutOfBounds}
 use Rattle.refusal.specs.declared.refusal.Refusal.{Refusal}
 use Rattle.refusal.specs.Refusals.{refuse}
 use Rattle.sharing.specs.Limits.{above}
-use Rattle.sharing.specs.ShareOut.{in_places}
 use Rattle.sharing.specs.Sharing.{largest_amount}
 use Rattle.passing.specs.declared.pass.Pass.{Pass}
 use Rattle.passing.specs.Passing.{largest_flow, most_takers, nothing_to_go_by, out_of_bounds, pass_answer, too_many_takers}
@@ -88,24 +86,14 @@ pass_placed m s v n x at =
     ∙ ap (λ b. placed n (cond b (Err (refuse ListTooLong 0)) rest)) (few_takers m s v n x)
     ∙ placed_by_tests n (ltb m.longest (length kws)) none (pass_of m s n x)
 
--- The front of the places is what was put there.
-front_of_places : (count : ℕ) (ks xs : List ℕ) → count ≡ length xs → ks ≡ in_places 32 xs → take count ks ≡ xs
-front_of_places count ks xs long placed =
-    ap (λ (ys : List ℕ). take count ys) placed ∙ take_at xs (replicate (32 - length xs) 0) count (omega arith)
-
 -- What a pass of the gathered takers is answered is told with the number of the system.
 pub pass_told : (m : Makings) (s : State) → Sound s → (n : ℕ) (x : System) → numbered s.systems n ≡ Some x → (cs : List Coupling) → cs ≡ s.couplings
-    → (count : ℕ) (ks ms : List ℕ) → count ≡ length (x.kw ∷ map (λ c. c.kw) (leading_down cs n)) → ks ≡ in_places 32 (x.kw ∷ map (λ c. c.kw) (leading_down cs n))
-    → ms ≡ in_places 32 (x.mwh ∷ map (λ c. c.mwh) (leading_down cs n))
-    → (r : Result Pass Refusal) → r ≡ pass_answer m.longest m.share x.standing x.permille (take count ks) (take count ms)
+    → (ks ms : List ℕ) → ks ≡ x.kw ∷ map (λ c. c.kw) (leading_down cs n) → ms ≡ x.mwh ∷ map (λ c. c.mwh) (leading_down cs n)
+    → (r : Result Pass Refusal) → r ≡ pass_answer m.longest m.share x.standing x.permille ks ms
     → placed n r ≡ unless (in_the_way m s n x) (pass_of m s n x)
-pass_told m s v n x found cs same count ks ms long kws mwhs r told =
-    let kw_list = x.kw ∷ map (λ c. c.kw) (leading_down cs n) in
-    let mwh_list = x.mwh ∷ map (λ c. c.mwh) (leading_down cs n) in
-    let paired : count ≡ length mwh_list = omega (arith, takers_counted (λ c. c.kw) x.kw cs n, takers_counted (λ c. c.mwh) x.mwh cs n) in
+pass_told m s v n x found cs same ks ms kws mwhs r told =
     let answer : List ℕ → List ℕ → Result Pass Refusal = λ us ws. pass_answer m.longest m.share x.standing x.permille us ws in
     ap (placed n) told
-    ∙ ap (λ (us : List ℕ). placed n (answer us (take count ms))) (front_of_places count ks kw_list long kws)
-    ∙ ap (λ (ws : List ℕ). placed n (answer kw_list ws)) (front_of_places count ms mwh_list paired mwhs)
-    ∙ ap (λ (ds : List Coupling). placed n (answer (x.kw ∷ map (λ c. c.kw) (leading_down ds n)) (x.mwh ∷ map (λ c. c.mwh) (leading_down ds n)))) same
+    ∙ ap (λ (us : List ℕ). placed n (answer us ms)) (kws ∙ ap (λ (ds : List Coupling). x.kw ∷ map (λ c. c.kw) (leading_down ds n)) same)
+    ∙ ap (λ (ws : List ℕ). placed n (answer (taker_kws s n x) ws)) (mwhs ∙ ap (λ (ds : List Coupling). x.mwh ∷ map (λ c. c.mwh) (leading_down ds n)) same)
     ∙ pass_placed m s v n x (entry_from_numbered s.systems n x found)

@@ -63,8 +63,8 @@ impl<E: Edition + Drop, R: SharingRule + Drop> TariffYear<E, R> {
         let figures = PassFigures {
             amount: system.standing,
             permille: system.permille,
-            kws: &takers.kws[..takers.count],
-            mwhs: &takers.mwhs[..takers.count],
+            kws: takers.kws.as_slice(),
+            mwhs: takers.mwhs.as_slice(),
         };
         work_out_pass(&self.basis.rule, &figures).map_err(|refusal| Refusal::at(
             refusal.ground,

@@ -143,7 +143,7 @@ impl<E: Edition + Drop, R: SharingRule + Drop> TariffYear<E, R> {
 }
 
 // How many couplings lead down from this system.
-pub fn count_below(couplings: &[Coupling], upper: u64) -> u64
+fn count_below(couplings: &[Coupling], upper: u64) -> u64
     ensures { result ≡ below_count couplings.now upper }
 {
     couplings

@@ -1,10 +1,7 @@
-use Rattle.std.proofs.Common.{◌≡◌, ◌+◌, ◌∷◌, length, map, take}
-use Rattle.sharing.specs.ShareOut.{in_places}
-use Rattle.tariff_year.specs.Takings.{leading_down}
+use Rattle.std.proofs.Common.{◌≡◌, ◌∷◌, map}
 use Rattle.tariff_year.proofs.takers.gather.Given as goal
 
-abbrev pub invariant-loop-taker : goal.invariant-loop-taker
-invariant-loop-taker l =
-    (l.taker-iterator.a ≡ record { start = length l.yielded + 1; end = 32 })
-    × (l.kws ≡ in_places 32 (l.fn.kw ∷ map (λ c. c.kw) (take (length l.yielded) (leading_down l.couplings l.fn.upper))))
-    × (l.mwhs ≡ in_places 32 (l.fn.mwh ∷ map (λ c. c.mwh) (take (length l.yielded) (leading_down l.couplings l.fn.upper))))
+abbrev pub invariant-loop-coupling : goal.invariant-loop-coupling
+invariant-loop-coupling l =
+    (l.kws.items ≡ l.fn.kw ∷ map (λ c. c.now.kw) l.yielded)
+    × (l.mwhs.items ≡ l.fn.mwh ∷ map (λ c. c.now.mwh) l.yielded)

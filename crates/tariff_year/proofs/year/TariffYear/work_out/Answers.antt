@@ -23,5 +23,5 @@ returns-clause-pinned g c =
     let same : c.map_err.result ≡ placed c.args.number c.work_out_pass.result = search rules in
     same
     ∙ pass_told m s (sound_from_fact s old.sound) c.args.number c.args.system c.requires c.deref.result.now c.deref.ensures.value
-    gathered.result.count gathered.result.kws gathered.result.mwhs gathered.ensures.count gathered.ensures.kws gathered.ensures.mwhs
+    c.as_slice.result.now c.as_slice-2.result.now (cc) (cc)
     c.work_out_pass.result c.work_out_pass.ensures.pinned
