@@ -21,9 +21,8 @@ pub fn share_out<R: SharingRule, const N: usize>(
         return Err(Refusal::of(Ground::OutOfBounds));
     }
     let mut shares = [0; N];
-    // A range, since the rule is asked by position; `array::try_from_fn` would ask for a bound on N.
-    for position in 0..weights.len() {
-        shares[position] = rule.share(amount, weights, position)?;
+    for (position, share) in shares[..weights.len()].iter_mut().enumerate() {
+        *share = rule.share(amount, weights, position)?;
     }
     Ok(shares)
 }
