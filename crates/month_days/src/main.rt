@@ -34,7 +34,7 @@ fn main(rt: HostRuntime) -> io::Result<()> {
     Ok(())
 }
 
-// Prints the answer to a line; a blank line has none.
+// Prints the answer to a line; a blank line has none. Each program tells a fault in its own way, so this stands in each.
 fn answer(rt: &HostRuntime, number: u64, line: &[u8]) -> io::Result<Outcome> {
     match read_question(rt.alloc(), line) {
         Ok(None) => Ok(Outcome::Blank),

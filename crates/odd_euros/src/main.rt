@@ -19,6 +19,7 @@ fn main(rt: HostRuntime) -> io::Result<()> {
     Ok(())
 }
 
+// Each program tells a fault in its own way, so this stands in each.
 fn answer(rt: &HostRuntime, number: u64, line: &[u8]) -> io::Result<Outcome> {
     let numbers = match read_numbers(rt.alloc(), line, MOST_NUMBERS) {
         Ok(numbers) => numbers,

@@ -25,7 +25,8 @@ pub fn show_line(rt: &HostRuntime, amount: u64, weights: &[u64]) -> io::Result<O
     Ok(running.or(greatest))
 }
 
-// Shows the amount shared by one rule, or why the rule refuses.
+// Shows the amount shared by one rule, or why the rule refuses. Each program does this in words of its own; only the outcome is
+// the same.
 fn show_rule<R: SharingRule>(
     rt: &HostRuntime,
     name: &str,

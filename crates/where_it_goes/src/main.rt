@@ -22,6 +22,7 @@ fn main(rt: HostRuntime) -> io::Result<()> {
     Ok(())
 }
 
+// Each program tells a fault in its own way, so this stands in each.
 fn answer(rt: &HostRuntime, number: u64, line: &[u8]) -> io::Result<Outcome> {
     match read_question(rt.alloc(), line) {
         Ok(None) => Ok(Outcome::Blank),

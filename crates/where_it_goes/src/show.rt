@@ -19,7 +19,7 @@ pub fn show_question(rt: &HostRuntime, question: &Question) -> io::Result<Outcom
     Ok(running.or(greatest))
 }
 
-// Shows the pass by one rule, or why it is refused.
+// Shows the pass by one rule, or why it is refused. Each program does this in words of its own; only the outcome is the same.
 fn show_rule<R: SharingRule>(
     rt: &HostRuntime,
     name: &str,
