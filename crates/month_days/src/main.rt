@@ -30,7 +30,12 @@ const HINT: &str =
 
 fn main(rt: HostRuntime) -> io::Result<()> {
     let input = BufReader::new(rt.alloc(), rt.stdin())?;
-    answer_lines(&rt, input, HINT, |number, line| answer(&rt, number, line))?;
+    answer_lines(
+        &rt,
+        input,
+        HINT,
+        &mut |number, line| answer(&rt, number, line),
+    )?;
     Ok(())
 }
 

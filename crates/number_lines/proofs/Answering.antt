@@ -1,10 +1,10 @@
 -- Lines taken from an input one after another, and the closure that answers them.
-use Rattle.std.proofs.Common.{◌≡◌, ℕ, ◌+◌, ◌-◌, ◌^◌, ◌≤◌, ◌<◌, cond, true, false, ◌==◌, List, [], ◌∷◌, length, Option, Some, None, Ok, Result, IfSome, refl, ap, subst, arith}
+use Rattle.std.proofs.Common.{◌≡◌, ℕ, ◌+◌, ◌-◌, ◌^◌, ◌≤◌, ◌<◌, cond, true, false, ◌==◌, List, [], ◌∷◌, length, Option, Some, None, Ok, Result, IfSome, refl, sym, ap, ◌∙◌, subst, arith}
 use Rattle.std.specs.Fn.{Mut, Called}
 use Rattle.std.specs.Borrow.{Bor}
 use Rattle.std.specs.Io.KnownBytes.{IsAtEnd}
 use Rattle.std.specs.Io.BufRead.{DropsThrough, drop_through, take_through}
-use Rattle.number_lines.specs.InputLines.{AnswersBy, before, lines_of, tallied_from}
+use Rattle.number_lines.specs.InputLines.{AnsweredInTurn, AnswersBy, before, lines_of, tallied_from}
 use Rattle.number_lines.specs.Tallies.{no_line, tallied}
 use Rattle.number_lines.specs.declared.tally.Outcome.{Outcome}
 use Rattle.number_lines.specs.declared.tally.Tally.{Tally}
@@ -23,70 +23,83 @@ fewer b (c ∷ cs) =
     elim (b == 10) as (λ v. length {A = ℕ} (cond v (c ∷ cs) (drop_through 10 (c ∷ cs))) ≤ length (c ∷ cs)) [ true ↦ omega arith | false ↦ omega arith ]
 
 module _ {F E : Type 0} (calls : Mut F (ℕ × (Bor (List ℕ) × Unit {0})) (Result Outcome E)) where
-  -- Before the line of this number `rest` is left of the input, and its lines are what the tally lacks.
-  pub record Left (outcome : ℕ → List ℕ → Outcome) (bytes : List ℕ) (known : Option (List ℕ)) (answer : F) (number : ℕ) (tally : Tally) : Type 0 where
+  -- Calls that answer by `outcome` tally what it tells of the lines.
+  pub tallied_in_turn : (outcome : ℕ → List ℕ → Outcome) (answer : F) (number : ℕ) (lines : List (List ℕ)) (t : Tally) (later : F) (told : Tally)
+      → AnswersBy calls outcome answer → AnsweredInTurn calls answer number lines t later told → told ≡ tallied_from outcome number lines t
+  tallied_in_turn outcome answer number [] t later told answers (same, tells) = tells
+  tallied_in_turn outcome answer number (line ∷ lines) t later told answers (shown, here, next, is, call, rest) =
+      let first = answers.at ((number, (shown, tt)) ∷ []) (Ok here) next call in
+      let behind : AnswersBy calls outcome next = record { at = λ xs. (answers.at ((number, (shown, tt)) ∷ xs) (Ok here) next call).1 } in
+      let tells : here ≡ outcome number line = first.0 ∙ ap (outcome number) is in
+      tallied_in_turn outcome next (number + 1) lines (tallied t here) later told behind rest ∙ ap (λ o. tallied_from outcome (number + 1) lines (tallied t o)) tells
+
+  -- Before the line of this number `rest` is left of the input, and who answers its lines from here has answered all in turn.
+  pub record Left (bytes : List ℕ) (known : Option (List ℕ)) (first answer : F) (number : ℕ) (tally : Tally) : Type 0 where
     pub rest : List ℕ
     pub knows : known ≡ Some rest
-    pub answers : AnswersBy calls outcome answer
     pub fits : length rest + number ≤ length bytes + 1
-    pub tells : tallied_from outcome number (lines_of rest) tally ≡ tallied_from outcome 1 (lines_of bytes) no_line
+    pub leads : (later : F) (told : Tally) → AnsweredInTurn calls answer number (lines_of rest) tally later told → AnsweredInTurn calls first 1 (lines_of bytes) no_line later told
 
 module _ {F E : Type 0} (calls : Mut F (ℕ × (Bor (List ℕ) × Unit {0})) (Result Outcome E)) (start : Option (List ℕ)) (first : F) where
-  -- So it is for all that the closure may answer by, where the bytes are known.
+  -- So it is where the bytes are known.
   abbrev pub LeadsOn : Option (List ℕ) → F → ℕ → Tally → Type 0
-  LeadsOn known answer number tally = IfSome start (λ bytes. (outcome : ℕ → List ℕ → Outcome) → AnswersBy calls outcome first → Left calls outcome bytes known answer number tally)
+  LeadsOn known answer number tally = IfSome start (λ bytes. Left calls bytes known first answer number tally)
 
-  -- At the end the tally is that of all lines.
-  abbrev pub Whole : Tally → Type 0
-  Whole tally = IfSome start (λ bytes. length bytes + 2 < 2 ^ 64 → (outcome : ℕ → List ℕ → Outcome) → AnswersBy calls outcome first → tally ≡ tallied_from outcome 1 (lines_of bytes) no_line)
+  -- At the end all lines are answered in turn.
+  abbrev pub Whole : F → Tally → Type 0
+  Whole later tally = IfSome start (λ bytes. length bytes + 2 < 2 ^ 64 → AnsweredInTurn calls first 1 (lines_of bytes) no_line later tally)
+
+  -- Then the tally is that of all lines.
+  abbrev pub Counted : Tally → Type 0
+  Counted tally = IfSome start (λ bytes. length bytes + 2 < 2 ^ 64 → (outcome : ℕ → List ℕ → Outcome) → AnswersBy calls outcome first → tally ≡ tallied_from outcome 1 (lines_of bytes) no_line)
 
 module _ {F E : Type 0} (calls : Mut F (ℕ × (Bor (List ℕ) × Unit {0})) (Result Outcome E)) where
   pub leads_at_first : (start : Option (List ℕ)) (first : F) → LeadsOn calls start first start first 1 no_line
   leads_at_first None first = tt
-  leads_at_first (Some bytes) first = λ outcome h. record { rest = bytes; knows = refl; answers = h; fits = omega arith; tells = refl }
+  leads_at_first (Some bytes) first = record { rest = bytes; knows = refl; fits = omega arith; leads = λ later told all. all }
 
-  told_on : (outcome : ℕ → List ℕ → Outcome) (bytes rest : List ℕ) (known : Option (List ℕ)) (answer : F) (number : ℕ) (tally : Tally) (line : Bor (List ℕ)) (told : Outcome) (answer' : F)
-      → AnswersBy calls outcome answer → length rest + number ≤ length bytes + 1 → tallied_from outcome number (lines_of rest) tally ≡ tallied_from outcome 1 (lines_of bytes) no_line
+  answered_on : (bytes rest : List ℕ) (known : Option (List ℕ)) (first answer : F) (number : ℕ) (tally : Tally) (line : Bor (List ℕ)) (told : Outcome) (answer' : F)
+      → length rest + number ≤ length bytes + 1
+      → ((later : F) (all : Tally) → AnsweredInTurn calls answer number (lines_of rest) tally later all → AnsweredInTurn calls first 1 (lines_of bytes) no_line later all)
       → Called calls answer (number, (line, tt)) (Ok told) answer' → 0 < length line.now → line.now ≡ take_through 10 rest → known ≡ Some (drop_through 10 rest)
-      → Left calls outcome bytes known answer' (number + 1) (tallied tally told)
-  told_on outcome bytes [] known answer number tally line told answer' answers fits tells call some is left =
+      → Left calls bytes known first answer' (number + 1) (tallied tally told)
+  answered_on bytes [] known first answer number tally line told answer' fits leads call some is left =
       let none : length line.now ≡ 0 = ap length is in absurd (omega arith)
-  told_on outcome bytes (b ∷ bs) known answer number tally line told answer' answers fits tells call some is left =
-      let here : told ≡ outcome number line.now = (answers.at ((number, (line, tt)) ∷ []) (Ok told) answer' call).0 in
+  answered_on bytes (b ∷ bs) known first answer number tally line told answer' fits leads call some is left =
       let less = fewer b bs in
       record {
         rest = drop_through 10 (b ∷ bs);
         knows = left;
-        answers = record { at = λ xs. (answers.at ((number, (line, tt)) ∷ xs) (Ok told) answer' call).1 };
         fits = omega arith;
-        tells = rw (here, is) (subst (λ lines. tallied_from outcome number lines tally ≡ tallied_from outcome 1 (lines_of bytes) no_line) (lines_first b bs) tells);
+        leads = λ later all more. leads later all (subst (λ lines. AnsweredInTurn calls answer number lines tally later all) (sym (lines_first b bs)) (line, told, answer', is, call, more));
       }
 
   pub leads_on : (start : Option (List ℕ)) (first : F) (known known' : Option (List ℕ)) (answer : F) (number : ℕ) (tally : Tally) (line : Bor (List ℕ)) (told : Outcome) (answer' : F)
       → LeadsOn calls start first known answer number tally
       → Called calls answer (number, (line, tt)) (Ok told) answer' → 0 < length line.now → IfSome known (λ xs. line.now ≡ take_through 10 xs) → DropsThrough known known' 10
       → LeadsOn calls start first known' answer' (number + 1) (tallied tally told)
-  leads_on None first known known' answer number tally line told answer' leads call some is left = tt
-  leads_on (Some bytes) first known known' answer number tally line told answer' leads call some is left = λ outcome h.
-      let now = leads outcome h in
-      told_on outcome bytes now.rest known' answer number tally line told answer' now.answers now.fits now.tells call some
+  leads_on None first known known' answer number tally line told answer' now call some is left = tt
+  leads_on (Some bytes) first known known' answer number tally line told answer' now call some is left =
+      answered_on bytes now.rest known' first answer number tally line told answer' now.fits now.leads call some
       (subst (λ k. IfSome k (λ xs. line.now ≡ take_through 10 xs)) now.knows is)
       (subst (λ k. DropsThrough k known' 10) now.knows left)
 
   pub leads_to_end : (start : Option (List ℕ)) (first : F) (known : Option (List ℕ)) (answer : F) (number : ℕ) (tally : Tally)
-      → LeadsOn calls start first known answer number tally → IsAtEnd known → Whole calls start first tally
+      → LeadsOn calls start first known answer number tally → IsAtEnd known → Whole calls start first answer tally
   unfolding lines_of
-  leads_to_end None first known answer number tally leads over = tt
-  leads_to_end (Some bytes) first known answer number tally leads over = λ few outcome h.
-      let now = leads outcome h in
+  leads_to_end None first known answer number tally now over = tt
+  leads_to_end (Some bytes) first known answer number tally now over = λ few.
       let none : now.rest ≡ [] = subst IsAtEnd now.knows over in
-      subst (λ rest. tallied_from outcome number (lines_of rest) tally ≡ tallied_from outcome 1 (lines_of bytes) no_line) none now.tells
+      now.leads answer tally (subst (λ rest. AnsweredInTurn calls answer number (lines_of rest) tally answer tally) (sym none) (refl, refl))
 
   -- So many lines cannot have come.
   pub leads_past_end : (start : Option (List ℕ)) (first : F) (known : Option (List ℕ)) (answer : F) (number : ℕ) (tally : Tally)
-      → LeadsOn calls start first known answer number tally → 2 ^ 64 - 1 ≤ number → Whole calls start first tally
-  leads_past_end None first known answer number tally leads past = tt
-  leads_past_end (Some bytes) first known answer number tally leads past = λ few outcome h.
-      let now = leads outcome h in
+      → LeadsOn calls start first known answer number tally → 2 ^ 64 - 1 ≤ number → Whole calls start first answer tally
+  leads_past_end None first known answer number tally now past = tt
+  leads_past_end (Some bytes) first known answer number tally now past = λ few.
       let fits = now.fits in
       absurd (omega arith)
+
+  pub counted : (start : Option (List ℕ)) (first later : F) (tally : Tally) → Whole calls start first later tally → Counted calls start first tally
+  counted None first later tally whole = tt
+  counted (Some bytes) first later tally whole = λ few outcome answers. tallied_in_turn calls outcome first 1 (lines_of bytes) no_line later tally answers (whole few)

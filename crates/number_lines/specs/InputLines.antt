@@ -1,7 +1,7 @@
 -- The lines of an input, and the tally of what became of them.
-use Rattle.std.specs.Prelude.{◌≡◌, ℕ, ◌+◌, cond, List, [], ◌∷◌, ◌==◌, Result, IfOk}
+use Rattle.std.specs.Prelude.{◌≡◌, ℕ, ◌+◌, cond, List, [], ◌∷◌, ◌==◌, Ok, Result, IfOk}
 use Rattle.std.specs.Borrow.{Bor}
-use Rattle.std.specs.Fn.{Mut, AlwaysReturns}
+use Rattle.std.specs.Fn.{Mut, AlwaysReturns, Called}
 use Rattle.number_lines.specs.declared.tally.Outcome.{Outcome}
 use Rattle.number_lines.specs.declared.tally.Tally.{Tally}
 use Rattle.number_lines.specs.Tallies.{tallied}
@@ -24,3 +24,14 @@ AnswersBy calls outcome answer = AlwaysReturns calls (λ line r. IfOk r (λ told
 abbrev pub tallied_from : (ℕ → List ℕ → Outcome) → ℕ → List (List ℕ) → Tally → Tally
 tallied_from outcome number [] t = t
 tallied_from outcome number (line ∷ lines) t = tallied_from outcome (number + 1) lines (tallied t (outcome number line))
+
+module _ {F E : Type 0} (calls : Mut F (ℕ × (Bor (List ℕ) × Unit {0})) (Result Outcome E)) where
+  -- each of these lines was answered by one call, in order, the first by this number; the calls, and no others, led from the closure
+  -- to `later`, and what became of the lines was added to the tally
+  abbrev pub AnsweredInTurn : F → ℕ → List (List ℕ) → Tally → F → Tally → Type 0
+  AnsweredInTurn answer number [] t later told = (later ≡ answer) × (told ≡ t)
+  AnsweredInTurn answer number (line ∷ lines) t later told =
+      (shown : Bor (List ℕ)) × (outcome : Outcome) × (next : F)
+      × (shown.now ≡ line)
+      × Called calls answer (number, (shown, tt)) (Ok outcome) next
+      × AnsweredInTurn next (number + 1) lines (tallied t outcome) later told

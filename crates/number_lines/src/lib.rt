@@ -21,14 +21,19 @@ mod tests {
     #[test]
     fn lines_are_answered_and_counted(rt: HostRuntime) -> io::Result<()> {
         let input = &b"1 2\n \n3 x\n4"[..];
-        let tally = answer_lines(&rt, input, "nothing", |number, line| {
-            match read_numbers(rt.alloc(), line, 2) {
-                Err(_) => Ok(Outcome::NotUnderstood),
-                Ok(numbers) if numbers.is_empty() => Ok(Outcome::Blank),
-                Ok(numbers) if sum_of(&numbers) == number => Ok(Outcome::Answered),
-                Ok(_) => Ok(Outcome::Refused),
-            }
-        })?;
+        let tally = answer_lines(
+            &rt,
+            input,
+            "nothing",
+            &mut |number, line| {
+                match read_numbers(rt.alloc(), line, 2) {
+                    Err(_) => Ok(Outcome::NotUnderstood),
+                    Ok(numbers) if numbers.is_empty() => Ok(Outcome::Blank),
+                    Ok(numbers) if sum_of(&numbers) == number => Ok(Outcome::Answered),
+                    Ok(_) => Ok(Outcome::Refused),
+                }
+            },
+        )?;
         let expected = Tally {
             answered: 1,
             refused: 1,

@@ -15,7 +15,12 @@ const HINT: &str = "Type an amount and its weights, as in: 10 1 1 1 (whole euros
 
 fn main(rt: HostRuntime) -> io::Result<()> {
     let input = BufReader::new(rt.alloc(), rt.stdin())?;
-    answer_lines(&rt, input, HINT, |number, line| answer(&rt, number, line))?;
+    answer_lines(
+        &rt,
+        input,
+        HINT,
+        &mut |number, line| answer(&rt, number, line),
+    )?;
     Ok(())
 }
 
