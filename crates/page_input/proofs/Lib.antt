@@ -1,1 +1,1 @@
-mod Cutting
+mod Filling

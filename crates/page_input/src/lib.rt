@@ -1,7 +1,8 @@
 // A page of requests, read from an input that may be longer.
 #![tactic(auto)]
 
-ghost use Rattle.std.specs.Prelude.{◌≡◌, ◌≤◌, take, vec_len, IfOk, IfSome};
+ghost use Rattle.std.specs.Io.KnownBytes.{Consumes, IsAtEnd};
+ghost use Rattle.std.specs.Prelude.{◌≡◌, ◌+◌, ◌<◌, ◌≤◌, length, take, drop, vec_len, IfOk, IfSome};
 
 use rows::LONGEST_PAGE;
 use std::alloc::Global;
@@ -11,15 +12,51 @@ use std::io::Read;
 // One byte more than a page has at most tells a longer page from one that just fits.
 const MOST_BYTES: usize = LONGEST_PAGE + 1;
 
+// Reads once, into what is left of the page behind its first `at` bytes, and answers how many bytes came.
+fn read_behind<R: Read>(input: &mut R, page: &mut [u8], at: usize) -> io::Result<usize>
+    requires { at < length page.old }
+    ensures front { take at page.new ≡ take at page.old }
+    ensures fits { IfOk result (λ count. at + count ≤ length page.new) }
+    ensures came { IfOk result (λ count. Consumes (R.remaining input.old) (R.remaining input.new) (take count (drop at page.new))) }
+    ensures end { IfOk result (λ count. count ≡ 0 → IsAtEnd (R.remaining input.new)) }
+{
+    input.read(&mut page[at..])
+}
+
+// Fills the page from its front until the input ends, and answers how many bytes came. Each read asks for all that is left of
+// the page, and so `read_to_end` does not serve: of an input that hands out whole messages it would lose what a short read
+// leaves of one.
+fn fill<R: Read>(input: &mut R, page: &mut [u8]) -> io::Result<usize>
+    ensures within { IfOk result (λ filled. filled ≤ length page.old) }
+    ensures long { length page.new ≡ length page.old }
+    ensures first { IfSome (R.remaining input.old) (λ bytes. IfOk result (λ filled. take filled page.new ≡ take (length page.old) bytes)) }
+{
+    let mut filled = 0;
+    while filled < page.len() {
+        let count = read_behind(input, page, filled)?;
+        if count == 0 {
+            break;
+        }
+        filled += count;
+    }
+    Ok(filled)
+}
+
+// Room for as many bytes.
+fn empty_page(alloc: Global) -> io::Result<Vec<u8>>
+    ensures { IfOk result (λ page. vec_len page ≡ 60_001) }
+{
+    Ok(vec![in alloc; 0u8; MOST_BYTES]?)
+}
+
 // The bytes of the input, as far as a page that is too long can be told by them.
-pub fn read_page<R: Read + Drop>(alloc: Global, input: R) -> io::Result<Vec<u8>>
+pub fn read_page<R: Read + Drop>(alloc: Global, mut input: R) -> io::Result<Vec<u8>>
     ensures few { IfOk result (λ page. vec_len page ≤ 60_001) }
     ensures first { IfSome (R.remaining input) (λ bytes. IfOk result (λ page. page.items ≡ take 60_001 bytes)) }
 {
-    let mut page = Vec::new(alloc);
-    input.take(MOST_BYTES as u64).read_to_end(&mut page)?;
-    // No more than that came; it is said here for readers whose bytes no clause knows.
-    page.truncate(MOST_BYTES);
+    let mut page = empty_page(alloc)?;
+    let filled = fill(&mut input, &mut page)?;
+    page.truncate(filled);
     Ok(page)
 }
 
