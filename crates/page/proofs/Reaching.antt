@@ -1,15 +1,28 @@
 -- Every call leads from a reached state to a reached one.
-use Rattle.std.proofs.Common.{◌≡◌, ℕ, [], ◌∷◌, sym, ap, ◌∙◌, subst}
+use Rattle.std.proofs.Common.{◌≡◌, ℕ, ◌≤◌, leb, [], ◌∷◌, refl, sym, ap, ◌∙◌, subst, arith}
+use Rattle.std.proofs.lemmas.Bool.{and_from, le-leb}
 use mathlib.Core.Logic.{∥∥₁_map}
 use Rattle.edition.specs.Edition2013.{rows_2013}
 use Rattle.edition.specs.Tables.{known_in, percent_in}
+use Rattle.edition.specs.WholeRows.{all_whole, hundred_in}
 use Rattle.sharing.specs.Running.{running_share}
+use Rattle.sharing.specs.RunningLaw.{running_law}
 use Rattle.year_model.specs.Calls.{Call}
-use Rattle.year_model.specs.Makings.{Makings}
+use Rattle.year_model.specs.Makings.{Lawful, Makings}
 use Rattle.year_model.specs.State.{State, begun}
 use Rattle.year_model.specs.Steps.{after}
 use Rattle.tariff_year.specs.declared.basis.Basis.{Basis}
 use Rattle.page.specs.Reached.{Reached, page_makings}
+
+-- The edition of 2013 and the running rule are lawful in every calendar year.
+pub lawful_page : (calendar : ℕ) → 2000 ≤ calendar → calendar ≤ 2099 → Lawful (page_makings calendar)
+lawful_page calendar from to =
+    record {
+      dated = and_from (leb 2000 calendar) (leb calendar 2099) (le-leb 2000 calendar from) (le-leb calendar 2099 to);
+      twelve = omega arith;
+      sharing = running_law 32;
+      hundred = hundred_in rows_2013 (all_whole rows_2013 refl);
+    }
 
 pub reached_new : (m : Makings) (s : State) → s ≡ begun → Reached m s
 reached_new m s new = ∣ ([], sym new) ∣₁

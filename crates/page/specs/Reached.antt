@@ -4,7 +4,8 @@ use Rattle.edition.specs.Edition2013.{rows_2013}
 use Rattle.edition.specs.Tables.{known_in, percent_in}
 use Rattle.sharing.specs.Running.{running_share}
 use Rattle.year_model.specs.Calls.{Call, Reply}
-use Rattle.year_model.specs.Makings.{Makings}
+use Rattle.year_model.specs.Makings.{Lawful, Makings}
+use Rattle.year_model.specs.Sound.{IsSound}
 use Rattle.year_model.specs.State.{State, begun}
 use Rattle.year_model.specs.Steps.{state_after}
 use Rattle.tariff_year.specs.Years.{Did}
@@ -24,6 +25,13 @@ page_makings calendar =
 -- There is a list of calls that leads to this state.
 abbrev pub Reached : Makings → State → Type 0
 Reached m s = ∥ ((calls : List Call) × (state_after m calls ≡ s)) ∥₁
+
+-- What holds of the state of a page's year of this calendar year: what the year is made of is lawful, a list of calls led to the
+-- state, and the state is sound. So what is proved of every list of calls holds of it.
+pub record LedTo (calendar : ℕ) (s : State) : Type 0 where
+  pub lawful : Lawful (page_makings calendar)
+  pub reached : Reached (page_makings calendar) s
+  pub sound : IsSound s
 
 -- A page's year is seen as its calendar year and its state.
 pub record YearAt : Type 0 where

@@ -9,7 +9,7 @@ use Rattle.rows.specs.declared.fault.PageFault.TheVariants.{TooLong}
 use Rattle.year_model.specs.State.{State, begun}
 use Rattle.page.specs.Answers.{row_answered, state_behind}
 use Rattle.page.specs.First.{first_asked, year_row}
-use Rattle.page.specs.Reached.{page_makings}
+use Rattle.page.specs.Reached.{LedTo, page_makings}
 use Rattle.page.specs.declared.page.Stage.{Stage}
 use Rattle.page.specs.declared.page.Stage.TheVariants.{Refused, Unbegun, Running, Over}
 
@@ -56,6 +56,13 @@ standing_behind too_long number rows = over
 standing_behind unbegun number rows = begun_with (first_asked number rows)
 standing_behind (running calendar s) number rows = running calendar (next_behind calendar s number rows)
 standing_behind over number rows = over
+
+-- What holds of the year that answers rows then, where there is one.
+abbrev pub YearLedTo : Standing → Type 0
+YearLedTo too_long = Unit {0}
+YearLedTo unbegun = Unit {0}
+YearLedTo (running calendar s) = LedTo calendar s
+YearLedTo over = Unit {0}
 
 -- The rows that are left then.
 abbrev pub rows_left : Standing → List (List ℕ) → List (List ℕ)

@@ -1,9 +1,9 @@
 // A page that is answered row by row.
-ghost use Rattle.std.specs.Prelude.{◌≡◌, ◌+◌, length, IfOk, MatchResult};
+ghost use Rattle.std.specs.Prelude.{◌≡◌, ◌+◌, ◌^◌, ◌<◌, length, IfOk, MatchResult};
 ghost use Rattle.std.specs.Result.{result_map_both};
 ghost use Rattle.rows.specs.Judged.{behind};
 ghost use Rattle.page.specs.First.{year_row};
-ghost use Rattle.page.specs.Runs.{Went, begun_with, next_answered, next_behind, run_new, run_wanting, standing, standing_new};
+ghost use Rattle.page.specs.Runs.{YearLedTo, Went, begun_with, next_answered, next_behind, run_new, run_wanting, standing, standing_new};
 
 use crate::first::read_first;
 use crate::year::PageYear;
@@ -63,7 +63,7 @@ pub struct Page<'a> {
 }
 
 impl<'a> Model for Page<'a> {
-    ghost use Rattle.page.specs.Runs.{Run, run_at, standing};
+    ghost use Rattle.page.specs.Runs.{YearLedTo, Run, run_at, standing};
 
     ghost Value = { Run };
 
@@ -88,6 +88,22 @@ impl<'a> Page<'a> {
         Page {
             reader: Reader::new(page),
             stage: stage_of(page),
+        }
+    }
+
+    // The rows that were answered and those that are left can be counted, so a row's number has room above it.
+    pub fn rows_can_be_counted(&self)
+        ensures { self.now.reading.row + length self.now.reading.left < 2 ^ 63 }
+    {
+        self.reader.rows_can_be_counted();
+    }
+
+    // While a year answers the rows, what is proved of every list of calls holds of it.
+    pub fn is_reached_by_calls(&self)
+        ensures { YearLedTo self.now.stands }
+    {
+        if let Stage::Running(year) = &self.stage {
+            year.is_reached_by_calls();
         }
     }
 

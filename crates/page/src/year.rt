@@ -2,7 +2,7 @@
 ghost use Rattle.std.specs.Prelude.{IfOk, ◌≡◌};
 ghost use Rattle.year_model.specs.Calls.{call_cost, call_couple, call_open, call_take_back, call_use};
 ghost use Rattle.tariff_year.specs.Years.{told_number};
-ghost use Rattle.page.specs.Reached.{Called, Reached, page_makings, year_new};
+ghost use Rattle.page.specs.Reached.{Called, LedTo, Reached, page_makings, year_new};
 
 use calendar::CalendarYear;
 use edition::Edition2013;
@@ -39,9 +39,11 @@ impl PageYear {
         Ok(PageYear { year })
     }
 
-    // A list of calls led to the year's state, under the edition of 2013, the running rule and book 0.
+    // A list of calls led to the year's state, under the edition of 2013, the running rule and book 0. These are lawful and the
+    // state is sound, so that what is proved of every list of calls holds of the year.
     pub fn is_reached_by_calls(&self)
-        ensures { Reached (page_makings self.now.calendar) self.now.state }
+        ensures reached { Reached (page_makings self.now.calendar) self.now.state }
+        ensures led_to { LedTo self.now.calendar self.now.state }
     {
         // Where a field is used, the invariant is known.
         let _ = &self.year;

@@ -43,6 +43,18 @@ last_row (x ∷ []) l f = rows_at_other x [] (f 0 (omega arith))
 last_row (x ∷ y ∷ xs) l f =
     rows_at_other x (y ∷ xs) (f 0 (omega arith)) ∙ ap (before x) (last_row (y ∷ xs) (omega arith) (λ k h. f (suc k) (omega arith)))
 
+before_more : (b : ℕ) (rows : List (List ℕ)) (n : ℕ) → length rows ≤ n → length (before b rows) ≤ n + 1
+before_more b [] n few = omega arith
+before_more b (row ∷ rows) n few = omega arith
+
+-- there are no more rows than bytes
+pub rows_fewer : (xs : List ℕ) → length (rows_of xs) ≤ length xs
+unfolding rows_of
+rows_fewer [] = omega arith
+rows_fewer (x ∷ xs) =
+    let few = rows_fewer xs in
+    cond_both (eqb x 10) ((x ∷ []) ∷ rows_of xs) (before x (rows_of xs)) (λ rows. length rows ≤ length (x ∷ xs)) (λ t. omega arith) (λ f. let more = before_more x (rows_of xs) (length xs) few in omega arith)
+
 pub rows_none : (xs : List ℕ) → length xs ≤ 0 → rows_of xs ≡ []
 unfolding rows_of
 rows_none [] l = refl

@@ -54,6 +54,14 @@ impl<'a> Reader<'a> {
         Reader { rest: page, row: 0 }
     }
 
+    // The rows that were handed out and those that are left can be counted, so a row's number has room above it.
+    pub fn rows_can_be_counted(&self)
+        ensures { self.now.row + length self.now.left < 2 ^ 63 }
+    {
+        // Where a field is used, the invariant is known.
+        let _ = &self.rest;
+    }
+
     // The next row, up to and including its line feed, or None at the end of the page.
     pub fn next_row(&mut self) -> Option<NumberedRow<'a>>
         ensures moved { self.new ≡ behind self.old }
