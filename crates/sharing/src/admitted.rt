@@ -1,5 +1,5 @@
 // What a rule is asked and does not refuse.
-ghost use Rattle.std.specs.Prelude.{◌≡◌, ◌*◌, ◌/◌, ◌%◌, ◌<◌, ◌≤◌, if◌then◌else◌, length, IfOk, Some, None, sum, nat_lt, slice_index};
+ghost use Rattle.std.specs.Prelude.{◌≡◌, ◌-◌, ◌*◌, ◌/◌, ◌%◌, ◌<◌, ◌≤◌, if◌then◌else◌, length, IfOk, Some, None, sum, nat_lt, slice_index};
 ghost use Rattle.std.specs.Result.{result_map_both};
 ghost use Rattle.sharing.specs.Sharing.{largest_amount, largest_total, share_answer};
 
@@ -82,13 +82,19 @@ impl<'a> Admitted<'a> {
     }
 }
 
+// What the weights leave of `LARGEST_TOTAL`, or None where they pass it: one subtraction a weight tells both.
+fn room_left(weights: &[u64]) -> Option<u64>
+    ensures { result ≡ (if nat_lt largest_total (sum weights.now) then None else Some (largest_total - sum weights.now)) }
+{
+    weights
+        .iter()
+        .try_fold(LARGEST_TOTAL, |room, weight| room.checked_sub(*weight))
+}
+
 // The total of the weights, or None where it passes `LARGEST_TOTAL`.
 fn bounded_total(weights: &[u64]) -> Option<u64>
     ensures { result ≡ (if nat_lt largest_total (sum weights.now) then None else Some (sum weights.now)) }
 {
-    weights.iter().try_fold(0u64, |total, weight| {
-        total
-            .checked_add(*weight)
-            .filter(|sum| *sum <= LARGEST_TOTAL)
-    })
+    let room = room_left(weights)?;
+    Some(LARGEST_TOTAL.saturating_sub(room))
 }

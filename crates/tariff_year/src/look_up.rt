@@ -1,4 +1,5 @@
-// Arguments and entries of a call: what is out of bounds, not there or fixed is refused.
+// Arguments and entries of a call: what is out of bounds, not there or fixed is refused. They are put in line, since each would
+// otherwise copy a whole entry once more.
 ghost use Rattle.std.specs.Prelude.{◌≡◌, ◌<◌, ◌≤◌, IfOk, IfErr, Some, None, false};
 ghost use Rattle.year_model.specs.State.{is_fixed, numbered};
 ghost use Rattle.tariff_year.specs.LookedUp.{bounded, bounded_from_1, told_entry, unfixed};
@@ -7,6 +8,7 @@ use refusal::{Ground, Refusal};
 use year_model::System;
 
 // Refuses a number above its limit, by the place of the argument.
+#[inline(always)]
 pub fn bound(place: u64, number: u64, limit: u64) -> Result<(), Refusal>
     ensures told { result ≡ bounded place number limit }
     ensures within { IfOk result (λ _. number ≤ limit) }
@@ -19,6 +21,7 @@ pub fn bound(place: u64, number: u64, limit: u64) -> Result<(), Refusal>
 }
 
 // Refuses a number that is none of 1 to the last, by the place of the argument.
+#[inline(always)]
 pub fn bound_from_1(place: u64, number: u64, last: u64) -> Result<(), Refusal>
     ensures told { result ≡ bounded_from_1 place number last }
     ensures within { IfOk result (λ _. (1 ≤ number) × (number ≤ last)) }
@@ -30,6 +33,7 @@ pub fn bound_from_1(place: u64, number: u64, last: u64) -> Result<(), Refusal>
 }
 
 // The entry with this number, counted from 1, if there is one.
+#[inline(always)]
 pub fn entry<T: Copy>(entries: &[T], number: u64) -> Option<T>
     ensures { result ≡ numbered entries.now number }
 {
@@ -38,6 +42,7 @@ pub fn entry<T: Copy>(entries: &[T], number: u64) -> Option<T>
 }
 
 // The entry with this number, or the refusal that there is none.
+#[inline(always)]
 pub fn listed<T: Copy>(entries: &[T], number: u64) -> Result<T, Refusal>
     ensures told { result ≡ told_entry (numbered entries.now number) }
     ensures there { IfOk result (λ x. numbered entries.now number ≡ Some x) }
@@ -47,6 +52,7 @@ pub fn listed<T: Copy>(entries: &[T], number: u64) -> Result<T, Refusal>
 }
 
 // The system with this number, unless it is fixed.
+#[inline(always)]
 pub fn unfixed(systems: &[System], number: u64) -> Result<System, Refusal>
     ensures told { result ≡ unfixed (numbered systems.now number) }
     ensures there { IfOk result (λ x. numbered systems.now number ≡ Some x) }

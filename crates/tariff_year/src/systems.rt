@@ -148,8 +148,8 @@ fn count_below(couplings: &[Coupling], upper: u64) -> u64
 {
     couplings
         .iter()
-        .filter(|coupling| coupling.upper == upper)
-        .count() as u64
+        .map(|coupling| u64::from(coupling.upper == upper))
+        .sum()
 }
 
 // How many couplings join these two systems.
@@ -158,6 +158,6 @@ fn count_joining(couplings: &[Coupling], upper: u64, lower: u64) -> u64
 {
     couplings
         .iter()
-        .filter(|coupling| coupling.upper == upper && coupling.lower == lower)
-        .count() as u64
+        .map(|coupling| u64::from(coupling.upper == upper && coupling.lower == lower))
+        .sum()
 }

@@ -1,6 +1,6 @@
 use Rattle.std.proofs.Common.{rules}
 use Rattle.sharing.proofs.Bounding.{bounded_sum}
-use Rattle.sharing.proofs.admitted.bounded_total.Goals as goal
+use Rattle.sharing.proofs.admitted.room_left.Goals as goal
 
 pub returns : goal.returns
 returns c =
