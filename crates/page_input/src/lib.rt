@@ -42,11 +42,11 @@ fn fill<R: Read>(input: &mut R, page: &mut [u8]) -> io::Result<usize>
     Ok(filled)
 }
 
-// Room for as many bytes.
-fn empty_page(alloc: Global) -> io::Result<Vec<u8>>
-    ensures { IfOk result (λ page. vec_len page ≡ 60_001) }
+// Room for so many bytes.
+fn room_for(size: usize, alloc: Global) -> io::Result<Vec<u8>>
+    ensures { IfOk result (λ room. vec_len room ≡ size) }
 {
-    Ok(vec![in alloc; 0u8; MOST_BYTES]?)
+    Ok(vec![in alloc; 0u8; size]?)
 }
 
 // The bytes of the input, as far as a page that is too long can be told by them.
@@ -54,7 +54,7 @@ pub fn read_page<R: Read + Drop>(alloc: Global, mut input: R) -> io::Result<Vec<
     ensures few { IfOk result (λ page. vec_len page ≤ 60_001) }
     ensures first { IfSome (R.remaining input) (λ bytes. IfOk result (λ page. page.items ≡ take 60_001 bytes)) }
 {
-    let mut page = empty_page(alloc)?;
+    let mut page = room_for(MOST_BYTES, alloc)?;
     let filled = fill(&mut input, &mut page)?;
     page.truncate(filled);
     Ok(page)
