@@ -5,7 +5,7 @@ use Rattle.edition.specs.Tables.{known_in, percent_in}
 use Rattle.sharing.specs.Running.{running_share}
 use Rattle.year_model.specs.Calls.{Call, Reply}
 use Rattle.year_model.specs.Makings.{Lawful, Makings}
-use Rattle.year_model.specs.Sound.{IsSound}
+use Rattle.year_model.specs.Sound.{CategoriesKnown, FixingsWhole, IsSound, TermsDated}
 use Rattle.year_model.specs.State.{State, begun}
 use Rattle.year_model.specs.Steps.{state_after}
 use Rattle.tariff_year.specs.Years.{Did}
@@ -27,11 +27,15 @@ abbrev pub Reached : Makings → State → Type 0
 Reached m s = ∥ ((calls : List Call) × (state_after m calls ≡ s)) ∥₁
 
 -- What holds of the state of a page's year of this calendar year: what the year is made of is lawful, a list of calls led to the
--- state, and the state is sound. So what is proved of every list of calls holds of it.
+-- state, and the state is sound, its terms dated, its fixings whole and its categories known. So what is proved of every list of
+-- calls holds of it.
 pub record LedTo (calendar : ℕ) (s : State) : Type 0 where
   pub lawful : Lawful (page_makings calendar)
   pub reached : Reached (page_makings calendar) s
   pub sound : IsSound s
+  pub dated : TermsDated calendar s
+  pub priced : FixingsWhole s
+  pub known : CategoriesKnown (known_in rows_2013) s
 
 -- A page's year is seen as its calendar year and its state.
 pub record YearAt : Type 0 where

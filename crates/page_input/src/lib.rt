@@ -97,6 +97,29 @@ mod tests {
         }
     }
 
+    // An input of one message, which loses what a short read leaves of it.
+    #[derive(Drop)]
+    struct Message {
+        is_told: bool,
+    }
+
+    impl Read for Message {
+        fn read(&mut self, buf: &mut [u8]) -> io::Result<usize> {
+            if self.is_told {
+                return Ok(0);
+            }
+            self.is_told = true;
+            Ok(buf.len().min(50_000))
+        }
+    }
+
+    #[test]
+    fn a_message_is_read_whole(rt: HostRuntime) -> io::Result<()> {
+        let page = read_page(rt.alloc(), Message { is_told: false })?;
+        assert_eq!(rt; page.len(), 50_000);
+        Ok(())
+    }
+
     #[test]
     fn an_input_that_breaks_is_no_page(rt: HostRuntime) {
         assert!(rt; read_page(rt.alloc(), Broken { begun: false }).is_err());

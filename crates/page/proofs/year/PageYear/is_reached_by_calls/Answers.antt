@@ -11,4 +11,4 @@ returns-clause-led_to c =
     let year = c.self.inside.year in
     let calendar = year.basis.calendar in
     subst (λ (at : YearAt). LedTo at.calendar at.state) c.self.view_is
-    (record { lawful = lawful_page calendar.year calendar.from calendar.to; reached = c.self.invariant.1; sound = year.sound })
+    (record { lawful = lawful_page calendar.year calendar.from calendar.to; reached = c.self.invariant.1; sound = year.sound; dated = year.dated; priced = year.priced; known = year.known })
