@@ -9,6 +9,7 @@ pub record Filled (start now : Option (List ℕ)) (size : ℕ) (page : List ℕ)
   pub within : filled ≤ size
   pub read : Consumes start now (take filled page)
 
+-- Before the first read nothing was read.
 nothing_read : (start : Option (List ℕ)) → Consumes start start []
 nothing_read None = tt
 nothing_read (Some bytes) = refl
@@ -40,6 +41,7 @@ filled_on start now later size page page' filled count before long front fits ca
       read = subst (Consumes start later) (sym (front_and_more page' filled count)) (read_on start now later (take filled page') (take count (drop filled page')) (subst (Consumes start now) (sym front) before.read) came);
     }
 
+-- At the end of the input the front of the page is all of it, as far as the page goes.
 all_read : (start now : Option (List ℕ)) (size : ℕ) (page : List ℕ) (filled : ℕ) → Filled start now size page filled → IsAtEnd now → IfSome start (λ bytes. take filled page ≡ take size bytes)
 all_read None now size page filled is over = tt
 all_read (Some bytes) None size page filled is over = absurd is.read

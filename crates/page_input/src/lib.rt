@@ -97,31 +97,31 @@ mod tests {
         }
     }
 
-    // An input of one message, which loses what a short read leaves of it.
-    #[derive(Drop)]
-    struct Message {
-        is_told: bool,
+    #[test]
+    fn an_input_that_breaks_is_no_page(rt: HostRuntime) {
+        assert!(rt; read_page(rt.alloc(), Broken { begun: false }).is_err());
     }
 
-    impl Read for Message {
+    // An input of messages, each of which loses what a short read leaves of it.
+    #[derive(Drop)]
+    struct Messages {
+        left: usize,
+    }
+
+    impl Read for Messages {
         fn read(&mut self, buf: &mut [u8]) -> io::Result<usize> {
-            if self.is_told {
+            if self.left == 0 {
                 return Ok(0);
             }
-            self.is_told = true;
-            Ok(buf.len().min(50_000))
+            self.left -= 1;
+            Ok(buf.len().min(25_000))
         }
     }
 
     #[test]
-    fn a_message_is_read_whole(rt: HostRuntime) -> io::Result<()> {
-        let page = read_page(rt.alloc(), Message { is_told: false })?;
+    fn messages_are_read_whole(rt: HostRuntime) -> io::Result<()> {
+        let page = read_page(rt.alloc(), Messages { left: 2 })?;
         assert_eq!(rt; page.len(), 50_000);
         Ok(())
-    }
-
-    #[test]
-    fn an_input_that_breaks_is_no_page(rt: HostRuntime) {
-        assert!(rt; read_page(rt.alloc(), Broken { begun: false }).is_err());
     }
 }
