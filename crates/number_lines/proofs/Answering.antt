@@ -40,8 +40,8 @@ module _ {F E : Type 0} (calls : Mut F (ℕ × (Bor (List ℕ) × Unit {0})) (Re
     pub fits : length rest + number ≤ length bytes + 1
     pub leads : (later : F) (told : Tally) → AnsweredInTurn calls answer number (lines_of rest) tally later told → AnsweredInTurn calls first 1 (lines_of bytes) no_line later told
 
-  -- A closure that answers by `outcome` still does then, and the lines of `rest` are what the tally lacks, whether they come to be
-  -- answered or not.
+  -- A closure that answers by `outcome` still does then, and the lines of `rest` are what the tally lacks. `Leading` tells of runs that
+  -- reach the end, and the contract needs no more; this tells of a run that stops early too.
   pub record Left (outcome : ℕ → List ℕ → Outcome) (bytes : List ℕ) (known : Option (List ℕ)) (answer : F) (number : ℕ) (tally : Tally) : Type 0 where
     pub rest : List ℕ
     pub knows : known ≡ Some rest
@@ -71,6 +71,7 @@ module _ {F E : Type 0} (calls : Mut F (ℕ × (Bor (List ℕ) × Unit {0})) (Re
     λ outcome h. record { rest = bytes; knows = refl; answers = h; fits = omega arith; tells = refl },
   )
 
+  -- One line more was answered in turn.
   answered_on : (bytes rest : List ℕ) (known : Option (List ℕ)) (first answer : F) (number : ℕ) (tally : Tally) (line : Bor (List ℕ)) (told : Outcome) (answer' : F)
       → length rest + number ≤ length bytes + 1
       → ((later : F) (all : Tally) → AnsweredInTurn calls answer number (lines_of rest) tally later all → AnsweredInTurn calls first 1 (lines_of bytes) no_line later all)
@@ -87,6 +88,7 @@ module _ {F E : Type 0} (calls : Mut F (ℕ × (Bor (List ℕ) × Unit {0})) (Re
         leads = λ later all more. leads later all (subst (λ lines. AnsweredInTurn calls answer number lines tally later all) (sym (lines_first b bs)) (line, told, answer', is, call, more));
       }
 
+  -- And the tally lacks one line less.
   told_on : (outcome : ℕ → List ℕ → Outcome) (bytes rest : List ℕ) (known : Option (List ℕ)) (answer : F) (number : ℕ) (tally : Tally) (line : Bor (List ℕ)) (told : Outcome) (answer' : F)
       → AnswersBy calls outcome answer → length rest + number ≤ length bytes + 1 → tallied_from outcome number (lines_of rest) tally ≡ tallied_from outcome 1 (lines_of bytes) no_line
       → Called calls answer (number, (line, tt)) (Ok told) answer' → 0 < length line.now → line.now ≡ take_through 10 rest → known ≡ Some (drop_through 10 rest)
